@@ -1,0 +1,1 @@
+// The order of floats and bounds carried through an expression: laws only, in proofs/.

@@ -1,0 +1,2 @@
+-- What the functions of `leaves_abi` are proved equal to.
+pub mod Leaves

@@ -1,0 +1,2 @@
+-- What the functions of `noise` are proved equal to.
+pub mod Dust

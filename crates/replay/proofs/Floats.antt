@@ -1,0 +1,26 @@
+-- When a float is the NaN, from the tests that tell it. Assumes nothing.
+use mathlib.Core.Path.{_≡_, refl, sym, _∙_}
+use mathlib.Core.Bool.{true, false, not}
+use Prim.Native.Nat.{ℕ}
+use native.Mathlib.Omega.{arith}
+use lib.Dec.{T}
+use lib.Ieee.{Float, nan, inf, fin, isNan, ne}
+use lib.Ieee.Compare.{nan-differs}
+
+-- false is not true
+differs : false ≡ true → ⊥
+differs e = let z : _≡_ {A = ℕ} 0 1 = cc in omega arith
+
+-- what is a NaN is the NaN
+pub is-nan : (x : Float) → isNan x ≡ true → x ≡ nan
+unfolding isNan
+is-nan nan e = refl
+is-nan (inf s) e = absurd (differs e)
+is-nan (fin s m x) e = absurd (differs e)
+
+-- what equals itself is no NaN
+pub not-nan : (x : Float) → ne x x ≡ false → T (not (isNan x))
+unfolding isNan
+not-nan nan e = absurd (differs (sym e ∙ nan-differs))
+not-nan (inf s) e = tt
+not-nan (fin s m x) e = tt

@@ -1,0 +1,2 @@
+-- What the proofs of `resources` share. Assumes nothing.
+pub mod Arms

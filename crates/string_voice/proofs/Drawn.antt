@@ -1,0 +1,165 @@
+-- How many words a render draws, by what, and what it leaves: what a whole list of calls needs of the voice. The sound does not enter. Assumes nothing.
+use mathlib.Core.Path.{_≡_, refl, _∙_, ap, subst, subst⁻¹}
+use mathlib.Core.Bool.{Bool, true, false, _||_, cond}
+use mathlib.Core.List.{List}
+use Prim.Native.Nat.{ℕ, _+_, _-_, _≤_, min}
+use native.Mathlib.Nat.{zero-add, add-zero, le-trans, sub-le}
+use native.Mathlib.Omega.{arith}
+use lib.ListN.{length, take, length-take, length-replicate}
+use lib.Ieee.{Float}
+use Rattle.utils.specs.F32.{_⊘_, c0, c0·5, c1}
+use Rattle.utils.specs.Frames.{frames}
+use Rattle.utils.specs.Floats.{wholePart}
+use Rattle.utils.specs.Filter.{svfStep, svfSetFQ}
+use Rattle.utils.specs.declared.filter.FrequencyApproximation.the-variants.{Dirty}
+use Rattle.utils.specs.Draw.{ret, _>>=_}
+use Rattle.utils.proofs.Draw.{Draws, draws-bind, draws-then}
+use Rattle.utils.proofs.Frames.{Any, after, drawn, frames-draws-each, length-scan}
+use Rattle.noise.specs.Dust.{dustOf}
+use Rattle.string_voice.specs.declared.string.StringNonLinearity.{StringNonLinearity}
+use Rattle.string_voice.specs.declared.string.String.{String}
+use Rattle.string_voice.specs.declared.string_voice.Knobs.{Knobs}
+use Rattle.string_voice.specs.declared.string_voice.StringVoice.{StringVoice}
+use Rattle.string_voice.specs.String.{ratioOf, snap, nonLinearity, strung, Good}
+use Rattle.string_voice.specs.StringVoice.{raised, cutoffFor, struck, dustFrequency, dustStep, dusted, silence, noiseStep, burst, excitation, addStep, Excited, exciteOf, amount, Sounded, soundOf, After, renderOf}
+use Rattle.string_voice.proofs.Steps.{wrap, wordsAt, At}
+use Rattle.string_voice.proofs.Blocks.{ratioFor, strung-draws}
+use Rattle.string_voice.proofs.Halves.{struck-string}
+use Rattle.string_voice.proofs.Ranges.{Fundamental, left-in}
+
+-- ---- the excitation
+
+dusted-draws : (f accent : Float) (n : ℕ) (temp : List Float) → length temp ≡ n → Draws n (λ t. length t ≡ n) (dusted f accent temp)
+unfolding dusted dustOf
+dusted-draws f accent n temp e =
+    draws-then n (λ q. Any (q .0) × (length (q .1) ≡ length temp)) (λ t. length t ≡ n) (frames (dustStep f accent) tt temp temp) _
+    (frames-draws-each (dustStep f accent) Any (λ s x y h. (0, refl, λ w. (refl, tt))) n tt temp temp (omega arith) tt) (λ q p. p .1 ∙ e)
+
+burst-draws : (m n : ℕ) (temp : List Float) → length temp ≡ n → m ≤ n → Draws m (λ t. length t ≡ n) (burst m temp)
+unfolding burst
+burst-draws m n temp e l =
+    let quiet = silence temp in
+    draws-then m (λ q. Any (q .0) × (length (q .1) ≡ length quiet)) (λ t. length t ≡ n) (frames noiseStep tt (take m quiet) quiet) _
+    (frames-draws-each noiseStep Any (λ s x y h. (0, refl, λ w. (refl, tt))) m tt (take m quiet) quiet (simp (length-take, length-replicate) (omega arith)) tt)
+    (λ q p. p .1 ∙ length-replicate (length temp) c0 ∙ e)
+
+-- the words of the burst, and those of the dust
+abbrev pub burstWords : Bool → ℕ → ℕ → ℕ
+burstWords sustain left n = cond sustain 0 (min left n)
+
+abbrev pub dustWords : Bool → ℕ → ℕ
+dustWords sustain n = cond sustain n 0
+
+excitation-draws : (sustain : Bool) (k : Knobs) (left n : ℕ) (temp : List Float) → length temp ≡ n
+    → Draws (burstWords sustain left n + dustWords sustain n) (λ t. length t ≡ n) (excitation sustain k left temp)
+unfolding excitation
+excitation-draws true k left n temp e = rw zero-add (dusted-draws (dustFrequency (k .brightness)) (k .accent) n temp e)
+excitation-draws false k left n temp e = rw (add-zero, e) (burst-draws (min left n) n temp e (omega arith))
+
+-- ---- the first half
+
+-- what is left of the noise when a block begins, and behind n frames of it
+abbrev pub leftAt : Knobs → StringVoice → ℕ
+leftAt k v = struck k v .«remaining_noise_samples»
+
+abbrev pub leftAfter : Knobs → StringVoice → ℕ → ℕ
+leftAfter k v n = cond (k .sustain) (leftAt k v) (leftAt k v - min (leftAt k v) n)
+
+pub record FirstHalf (k : Knobs) (v : StringVoice) (n : ℕ) (x : Excited) : Type 0 where
+  pub left : x .voice .«remaining_noise_samples» ≡ leftAfter k v n
+  pub string : x .voice .string ≡ v .string
+  pub temp : length (x .temp) ≡ n
+  pub temp2 : length (x .temp2) ≡ n
+  pub aux : length (x .aux) ≡ n
+
+pub excite-draws : (k : Knobs) (v : StringVoice) (n : ℕ) (temp temp2 aux : List Float) → length temp ≡ n → length temp2 ≡ n → length aux ≡ n
+    → Draws (burstWords (k .sustain) (leftAt k v) n + dustWords (k .sustain) n) (FirstHalf k v n) (exciteOf k v temp temp2 aux)
+unfolding exciteOf
+excite-draws k v n temp temp2 aux lt l2 la =
+    let s = struck k v in
+    draws-then (burstWords (k .sustain) (leftAt k v) n + dustWords (k .sustain) n) (λ t. length t ≡ n) (FirstHalf k v n)
+    (excitation (k .sustain) k (leftAt k v) temp) _ (excitation-draws (k .sustain) k (leftAt k v) n temp lt)
+    (λ t h. record {
+      left = ap (λ (m : ℕ). cond (k .sustain) (leftAt k v) (leftAt k v - min (leftAt k v) m)) lt;
+      string = struck-string k v;
+      temp = h;
+      temp2 = length-scan svfStep (s .«excitation_filter») t temp2 ∙ l2;
+      aux = length-scan addStep tt _ aux ∙ la;
+    })
+
+-- ---- the second half, and both
+
+abbrev pub shapeOf : Knobs → StringNonLinearity
+shapeOf k = nonLinearity (amount (k .structure))
+
+-- the phase where a block begins, and the words of its string steps
+abbrev pub phaseAt : Knobs → String → Float
+phaseAt k s = snap (ratioOf (k .f0)) (s .«src_phase»)
+
+abbrev pub dispersionWords : Knobs → String → ℕ → ℕ
+dispersionWords k s n = drawn (wrap (ratioFor (k .f0))) (wordsAt (shapeOf k) (ratioFor (k .f0))) n (phaseAt k s)
+
+abbrev pub phaseAfter : Knobs → String → ℕ → Float
+phaseAfter k s n = after (wrap (ratioFor (k .f0))) n (phaseAt k s)
+
+pub record SecondHalf (k : Knobs) (v : StringVoice) (n : ℕ) (x : Sounded) : Type 0 where
+  pub left : x .voice .«remaining_noise_samples» ≡ v .«remaining_noise_samples»
+  pub string : At (phaseAfter k (v .string) n) (x .voice .string, x .lines)
+  pub out : length (x .out) ≡ n
+
+pub sound-draws : (k : Knobs) (v : StringVoice) (n : ℕ) (lines temp2 out : List Float) → Good (v .string, lines) → length temp2 ≡ n → length out ≡ n
+    → Draws (dispersionWords k (v .string) n) (SecondHalf k v n) (soundOf k v lines temp2 out)
+unfolding soundOf
+sound-draws k v n lines temp2 out g l2 lo =
+    draws-then (dispersionWords k (v .string) n) (λ q. At (phaseAfter k (v .string) n) (q .0) × (length (q .1) ≡ length out)) (SecondHalf k v n) (strung (shapeOf k) (k .f0) (raised (k .accent) (k .brightness)) (raised (k .accent) (k .damping)) (v .string, lines) temp2 out) _
+    (strung-draws (shapeOf k) (k .f0) (raised (k .accent) (k .brightness)) (raised (k .accent) (k .damping)) n (v .string, lines) temp2 out (omega arith) g)
+    (λ q r. record { left = refl; string = r .0; out = r .1 ∙ lo })
+
+-- what a render of n frames leaves: what is left of the noise, the phase, and every length
+pub record Left (k : Knobs) (v : StringVoice) (n : ℕ) (a : After) : Type 0 where
+  pub left : a .voice .«remaining_noise_samples» ≡ leftAfter k v n
+  pub string : At (phaseAfter k (v .string) n) (a .voice .string, a .lines)
+  pub temp : length (a .temp) ≡ n
+  pub temp2 : length (a .temp2) ≡ n
+  pub out : length (a .out) ≡ n
+  pub aux : length (a .aux) ≡ n
+
+-- burst or dust words first, dispersion words behind them
+pub render-draws : (k : Knobs) (v : StringVoice) (n : ℕ) (lines temp temp2 out aux : List Float)
+    → Good (v .string, lines) → length temp ≡ n → length temp2 ≡ n → length out ≡ n → length aux ≡ n
+    → Draws (burstWords (k .sustain) (leftAt k v) n + dustWords (k .sustain) n + dispersionWords k (v .string) n) (Left k v n) (renderOf k v lines temp temp2 out aux)
+unfolding renderOf
+render-draws k v n lines temp temp2 out aux g lt l2 lo la =
+    draws-bind (burstWords (k .sustain) (leftAt k v) n + dustWords (k .sustain) n) (dispersionWords k (v .string) n) (FirstHalf k v n) (Left k v n)
+    (exciteOf k v temp temp2 aux) _ (excite-draws k v n temp temp2 aux lt l2 la)
+    (λ e h.
+    let m = soundOf k (e .voice) lines (e .temp2) out in
+    subst
+    (λ (t : String). Draws (dispersionWords k t n) (Left k v n) (m >>= λ s. ret record { voice = s .voice; lines = s .lines; temp = e .temp; temp2 = e .temp2; out = s .out; aux = e .aux }))
+    (h .string)
+    (draws-then (dispersionWords k (e .voice .string) n) (SecondHalf k (e .voice) n) (Left k v n) m _
+    (sound-draws k (e .voice) n lines (e .temp2) out (subst⁻¹ (λ (t : String). Good (t, lines)) (h .string) g) (h .temp2) lo)
+    (λ s r. record {
+      left = r .left ∙ h .left;
+      string = subst (λ (t : String). At (phaseAfter k t n) (s .voice .string, s .lines)) (h .string) (r .string);
+      temp = h .temp;
+      temp2 = h .temp2;
+      out = r .out;
+      aux = h .aux;
+    })))
+
+-- ---- left stays at most 1,048,576 for an f0 of 2^-20 or more
+begun-at-most : (k : Knobs) (v : StringVoice) → Fundamental (k .f0) → v .«remaining_noise_samples» ≤ 1048576 → leftAt k v ≤ 1048576
+unfolding struck
+begun-at-most k v f h = go (k .trigger || k .sustain)
+  where
+    go : (b : Bool) → cond b (record { «excitation_filter» = svfSetFQ (v .«excitation_filter») (cutoffFor k) (cond (k .sustain) c1 c0·5) Dirty; string = v .string; «remaining_noise_samples» = wholePart (c1 ⊘ k .f0) }) v .«remaining_noise_samples» ≤ 1048576
+    go true = left-in (k .f0) f
+    go false = h
+
+rest-at-most : (b : Bool) (l n : ℕ) → l ≤ 1048576 → cond b l (l - min l n) ≤ 1048576
+rest-at-most true l n e = e
+rest-at-most false l n e = le-trans (sub-le l (min l n)) e
+
+pub left-at-most : (k : Knobs) (v : StringVoice) (n : ℕ) → Fundamental (k .f0) → v .«remaining_noise_samples» ≤ 1048576 → leftAfter k v n ≤ 1048576
+left-at-most k v n f h = rest-at-most (k .sustain) (leftAt k v) n (begun-at-most k v f h)

@@ -1,0 +1,9 @@
+-- Laws that the proofs of this crate and of others cite.
+pub mod Knobs
+pub mod Steps
+pub mod Blocks
+pub mod Ranges
+pub mod Halves
+pub mod Drawn
+pub mod Amounts
+pub mod Ledger

@@ -1,0 +1,193 @@
+-- What the calls of the string's `step` ensure, put together; what a step and a frame keep; and the words that they draw. Assumes nothing.
+use mathlib.Core.Path.{_≡_, refl, _∙_, ap, subst}
+use mathlib.Core.Bool.{Bool, true, false, cond}
+use mathlib.Core.List.{List, _++_}
+use Prim.Native.Nat.{ℕ, _+_, _-_, _<_, min}
+use native.Mathlib.Nat.{mod-lt}
+use native.Mathlib.Omega.{arith}
+use lib.ListN.{length, length-set, take, drop}
+use lib.Ieee.{Float, lt, neg}
+use Rattle.utils.specs.F32.{_⊕_, _⊖_, _⊗_, c1, c20}
+use Rattle.utils.specs.Draw.{Draw, ret, run}
+use Rattle.utils.specs.Frames.{frames}
+use Rattle.utils.specs.Part.{part, put}
+use Rattle.utils.specs.Floats.{wholePart, clampF}
+use Rattle.utils.specs.Filter.{svfOf, dcOf}
+use Rattle.utils.specs.DelayLine.{written, allpassOf, readFrac}
+use Rattle.utils.specs.declared.filter.SvfOut.{SvfOut}
+use Rattle.utils.specs.declared.filter.DcBlocker.{DcBlocker}
+use Rattle.utils.proofs.Draw.{run-then, Always, Draws, draws-always, draws-map, draws-then}
+use Rattle.utils.proofs.Frames.{Any, after, drawn, frames-draws}
+use Rattle.utils.proofs.Part.{length-part, length-put}
+use Rattle.string_voice.specs.declared.string.StringNonLinearity.{StringNonLinearity}
+use Rattle.string_voice.specs.declared.string.StringNonLinearity.the-variants.{CurvedBridge, Dispersion}
+use Rattle.string_voice.specs.declared.string.Params.{Params}
+use Rattle.string_voice.specs.declared.string.String.{String}
+use Rattle.string_voice.specs.declared.string.Heard.{Heard}
+use Rattle.string_voice.specs.declared.string.Bent.{Bent}
+use Rattle.string_voice.specs.String.{bent, plain, allpassed, mainOf, stretched, heard, bridged, stepOf, atPhase, moved, frameOf, Good}
+
+module _ (shape : StringNonLinearity) (p : Params) (x : Float) (t : String) (word : ℕ) (lines : List Float) where
+  pub stepped : {b : Bent} {h : Heard} {lines' : List Float} {held : Float} {dc : DcBlocker} {o : SvfOut} {next : ℕ} {line' : List Float} {bridge : Float}
+      → run (bent shape p (t .delay ⊕ p .increment) (t .«dispersion_noise») (t .«curved_bridge»)) word ≡ record { value = (b .delay, b .«dispersion_noise»); word = b .word }
+      → _≡_ {A = Heard × List Float} (h, lines') (heard shape p t (b .delay) lines)
+      → held ≡ clampF x (neg c20) c20
+      → dc ≡ dcOf (t .«dc_blocker») (h .s ⊕ held)
+      → o ≡ svfOf (t .«iir_damping_filter») (dc .y)
+      → _≡_ {A = ℕ × List Float} (next, line') (written (take 1024 lines') (t .string) (o .out))
+      → bridge ≡ bridged shape (h .s) (t .«curved_bridge»)
+      → run (stepOf shape p x (t, lines)) word ≡ record {
+        value = (
+          record {
+            string = next;
+            stretch = h .stretch;
+            «iir_damping_filter» = o .svf;
+            «dc_blocker» = dc;
+            delay = t .delay ⊕ p .increment;
+            «dispersion_noise» = b .«dispersion_noise»;
+            «curved_bridge» = bridge;
+            «src_phase» = t .«src_phase»;
+            «out_sample_0» = o .out;
+            «out_sample_1» = t .«out_sample_0»;
+            «sample_rate_hz» = t .«sample_rate_hz»;
+          },
+          line' ++ drop 1024 lines',
+        );
+        word = b .word;
+      }
+  unfolding stepOf part put
+  stepped eb eh ex ed eo el ec =
+      run-then (bent shape p (t .delay ⊕ p .increment) (t .«dispersion_noise») (t .«curved_bridge»)) _ word eb
+      ∙ rw (ap (λ q. q .0) el, ap (λ q. q .1) el, ec, eo, ed, ex, ap (λ q. q .0) eh, ap (λ q. q .1) eh)
+
+-- ---- what is kept
+
+written-place : (n : ℕ) (line : List Float) (at : ℕ) (x : Float) → length line ≡ n → 0 < n → written line at x .0 < n
+written-place n line at x e l = rw e (mod-lt (at + n - 1) l)
+
+allpass-place : (n : ℕ) (line : List Float) (at : ℕ) (x : Float) (delay : ℕ) (k : Float) → length line ≡ n → 0 < n
+    → allpassOf line at x delay k .0 .«write_ptr» < n
+unfolding allpassOf
+allpass-place n line at x delay k e l = written-place n line at x e l
+
+allpass-size : (line : List Float) (at : ℕ) (x : Float) (delay : ℕ) (k : Float) → length (allpassOf line at x delay k .1) ≡ length line
+unfolding allpassOf
+allpass-size line at x delay k = simp length-set
+
+-- what is left after a read: the stretch line's place, and the size
+record Kept (q : Heard × List Float) : Type 0 where
+  place : q .0 .stretch < 256
+  size : length (q .1) ≡ 1280
+
+plain-kept : (t : String) (delay : Float) (lines : List Float) → Good (t, lines) → Kept (plain t delay lines)
+unfolding plain
+plain-kept t delay lines g = record { place = g .stretch; size = g .size }
+
+allpassed-kept : (t : String) (main ap gain : Float) (lines : List Float) → Good (t, lines) → Kept (allpassed t main ap gain lines)
+unfolding allpassed
+allpassed-kept t main ap gain lines g =
+    let n : length (part 1024 256 lines) ≡ 256 = length-part 1024 256 lines (omega (arith, g .size)) in
+    let x = readFrac (part 0 1024 lines) (t .string) main in
+    record {
+      place = allpass-place 256 (part 1024 256 lines) (t .stretch) x (wholePart ap) gain n (omega arith);
+      size = length-put 1024 256 _ lines (omega (arith, g .size)) (allpass-size (part 1024 256 lines) (t .stretch) x (wholePart ap) gain ∙ n) ∙ g .size;
+    }
+
+one-of : (b : Bool) (m n : Heard × List Float) → Kept m → Kept n → Kept (cond b m n)
+one-of true m n h k = h
+one-of false m n h k = k
+
+heard-kept : (shape : StringNonLinearity) (p : Params) (t : String) (delay : Float) (lines : List Float) → Good (t, lines) → Kept (heard shape p t delay lines)
+unfolding heard
+heard-kept shape p t delay lines g =
+    let ap = delay ⊗ p .«stretch_point» in
+    let main = mainOf p delay in
+    one-of (stretched shape p delay) (allpassed t main ap (p .«ap_gain») lines) (plain t delay lines)
+    (allpassed-kept t main ap (p .«ap_gain») lines g) (plain-kept t delay lines g)
+
+-- ---- the words that are drawn
+
+-- a step draws one by the dispersion, none by the bridge
+abbrev pub wordsOf : StringNonLinearity → ℕ
+wordsOf (CurvedBridge a) = 0
+wordsOf (Dispersion a) = 1
+
+-- the phase at the next frame, and the words of a frame
+abbrev pub wrap : Float → Float → Float
+wrap ratio phase = cond (lt c1 (phase ⊕ ratio)) (phase ⊕ ratio ⊖ c1) (phase ⊕ ratio)
+
+abbrev pub wordsAt : StringNonLinearity → Float → Float → ℕ
+wordsAt shape ratio phase = cond (lt c1 (phase ⊕ ratio)) (wordsOf shape) 0
+
+-- a string whose phase is g
+pub record At (g : Float) (s : String × List Float) : Type 0 where
+  pub phase : s .0 .«src_phase» ≡ g
+  pub good : Good s
+
+bent-draws : (shape : StringNonLinearity) (p : Params) (delay noise bridge : Float) → Draws (wordsOf shape) Any (bent shape p delay noise bridge)
+unfolding bent
+bent-draws (CurvedBridge a) p delay noise bridge = (refl, tt)
+bent-draws (Dispersion a) p delay noise bridge = (0, refl, λ w. (refl, tt))
+
+step-draws : (shape : StringNonLinearity) (p : Params) (x : Float) (s : String × List Float) → Good s
+    → Draws (wordsOf shape) (At (s .0 .«src_phase»)) (stepOf shape p x s)
+unfolding stepOf
+step-draws shape p x s g =
+    let t = s .0 in
+    draws-then (wordsOf shape) Any (At (t .«src_phase»)) (bent shape p (t .delay ⊕ p .increment) (t .«dispersion_noise») (t .«curved_bridge»)) _
+    (bent-draws shape p (t .delay ⊕ p .increment) (t .«dispersion_noise») (t .«curved_bridge»))
+    (λ b _.
+    let h = heard-kept shape p t (b .0) (s .1) g in
+    let ls = heard shape p t (b .0) (s .1) .1 in
+    let n : length (part 0 1024 ls) ≡ 1024 = length-part 0 1024 ls (omega (arith, h .size)) in
+    record {
+      phase = refl;
+      good = record {
+        size = length-put 0 1024 _ ls (omega (arith, h .size)) (simp length-set n) ∙ h .size;
+        string = written-place 1024 (part 0 1024 ls) (t .string) x n (omega arith);
+        stretch = h .place;
+      };
+    })
+
+pub phase-good : (t : String) (p : Float) (lines : List Float) → Good (t, lines) → Good (atPhase t p, lines)
+phase-good t p lines g = record { size = g .size; string = g .string; stretch = g .stretch }
+
+-- a test of the definition, taken apart
+either : (b : Bool) (i j : ℕ) (g h : Float) (m n : Draw (String × List Float)) → Draws i (At g) m → Draws j (At h) n
+    → Draws (cond b i j) (At (cond b g h)) (cond b m n)
+either true i j g h m n d e = d
+either false i j g h m n d e = e
+
+moved-draws : (shape : StringNonLinearity) (p : Params) (x : Float) (s : String × List Float) → Good s
+    → Draws (wordsAt shape (p .«src_ratio») (s .0 .«src_phase»)) (At (wrap (p .«src_ratio») (s .0 .«src_phase»))) (moved shape p x s)
+unfolding moved
+moved-draws shape p x s g =
+    let q = s .0 .«src_phase» ⊕ p .«src_ratio» in
+    either (lt c1 q) (wordsOf shape) 0 (q ⊖ c1) q (stepOf shape p x (atPhase (s .0) (q ⊖ c1), s .1)) (ret (atPhase (s .0) q, s .1))
+    (step-draws shape p x (atPhase (s .0) (q ⊖ c1), s .1) (phase-good (s .0) (q ⊖ c1) (s .1) g))
+    (refl, record { phase = refl; good = phase-good (s .0) q (s .1) g })
+
+frame-draws : (shape : StringNonLinearity) (p : Params) (g : Float) (s : String × List Float) (x y : Float) → At g s
+    → Draws (wordsAt shape (p .«src_ratio») g) (λ r. At (wrap (p .«src_ratio») g) (r .0)) (frameOf shape p s x y)
+frame-draws shape p g s x y h =
+    let f = s .0 .«src_phase» in
+    subst (λ (f : Float). Draws (wordsAt shape (p .«src_ratio») f) (λ r. At (wrap (p .«src_ratio») f) (r .0)) (frameOf shape p s x y)) (h .phase)
+    (draws-then (wordsAt shape (p .«src_ratio») f) (At (wrap (p .«src_ratio») f)) (λ r. At (wrap (p .«src_ratio») f) (r .0)) (moved shape p x s) _
+    (moved-draws shape p x s (h .good)) (λ t k. k))
+
+-- what every frame keeps
+pub frame-good : (shape : StringNonLinearity) (p : Params) (s : String × List Float) (x y : Float) → Good s
+    → Always (λ r. Good (r .0)) (frameOf shape p s x y)
+frame-good shape p s x y g =
+    let k = wordsAt shape (p .«src_ratio») (s .0 .«src_phase») in
+    draws-always k (λ r. Good (r .0)) (frameOf shape p s x y)
+    (draws-map k (λ r. At (wrap (p .«src_ratio») (s .0 .«src_phase»)) (r .0)) (λ r. Good (r .0)) (frameOf shape p s x y) (λ r h. h .good)
+    (frame-draws shape p (s .0 .«src_phase») s x y (record { phase = refl; good = g })))
+
+-- n frames: the words that their steps draw, the phase behind them, and the output's length
+pub frames-draw : (shape : StringNonLinearity) (p : Params) (n : ℕ) (s : String × List Float) (xs ys : List Float) → n ≡ min (length xs) (length ys) → Good s
+    → Draws (drawn (wrap (p .«src_ratio»)) (wordsAt shape (p .«src_ratio»)) n (s .0 .«src_phase»))
+    (λ q. At (after (wrap (p .«src_ratio»)) n (s .0 .«src_phase»)) (q .0) × (length (q .1) ≡ length ys)) (frames (frameOf shape p) s xs ys)
+frames-draw shape p n s xs ys e g =
+    frames-draws (frameOf shape p) (wrap (p .«src_ratio»)) (wordsAt shape (p .«src_ratio»)) At (frame-draws shape p) n (s .0 .«src_phase») s xs ys e
+    (record { phase = refl; good = g })

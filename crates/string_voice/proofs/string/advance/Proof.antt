@@ -1,0 +1,32 @@
+-- `string::advance` meets its contract: a step only where the phase passes 1.
+use denote.Ref.{now}
+use Rattle.string_voice.specs.String.{moved}
+use Rattle.string_voice.proofs.Steps.{phase-good}
+use borrow.Author.Needs.{needs}
+use Rattle.string_voice.proofs.string.advance.Statement.{statement}
+use Rattle.string_voice.proofs.string.advance.Tie as tie
+
+at-phase-requires : tie.Need-at-phase-requires
+at-phase-requires c κs = search needs
+
+step-requires : tie.Need-step-requires
+step-requires c κs = let a = c .before .before .before .before .before .before .before .args in rw (c .at-phase .ensures) (phase-good (a .v .string) _ (now (a .lines)) (c .before .before .before .before .before .before .before .pre))
+
+at-phase-requires-2 : tie.Need-at-phase-requires-2
+at-phase-requires-2 c κs = search needs
+
+same-length : tie.Need-same-length
+same-length c = search needs
+
+returns : tie.Need-returns
+unfolding moved
+returns c = rw (c .before .before .before .before .before .if1 .taken) (rw (c .before .before .before .at-phase .ensures) at (c .before .before .step .ensures))
+
+returns-2 : tie.Need-returns-2
+unfolding moved
+returns-2 c = rw (c .before .if1 .left, c .at-phase2 .ensures)
+
+pub advance-spec : {M : Type 1} → statement M
+advance-spec =
+    tie.close
+    (tie.spec at-phase-requires step-requires at-phase-requires-2 same-length returns returns-2)

@@ -1,0 +1,96 @@
+-- `string::run_frames` meets its contract, by the law of loops over frames.
+use mathlib.Core.Path.{_≡_}
+use Prim.Native.Nat.{_-_}
+use native.Mathlib.Omega.{arith}
+use lib.Ieee.{nan}
+use borrow.Author.Needs.{needs}
+use Rattle.utils.proofs.Draw.{run-then}
+use Rattle.utils.proofs.Frames.{Frames, frames-begin, frames-turn, frames-end, frames-good}
+use Rattle.string_voice.specs.String.{moved, frameOf, Good}
+use Rattle.string_voice.proofs.Steps.{frame-good}
+use Rattle.string_voice.proofs.string.run_frames.Statement.{statement}
+use Rattle.string_voice.proofs.string.run_frames.Tie as tie
+
+abbrev Inv-loop : tie.InvT-loop
+Inv-loop lines₀ shape p in- out₀ n u₀ i₀ lines out u i = Frames (frameOf shape p) (u₀ .string, lines₀) in- out₀ (u₀ .word) i (u .string, lines) out (u .word)
+
+abbrev μ-loop : tie.MeasureT-loop
+μ-loop lines₀ shape p in- out₀ n u₀ i₀ lines out u i = n - i
+
+min-usize-requires : tie.Need-min-usize-requires Inv-loop μ-loop
+min-usize-requires c κs = search needs
+
+loop-holds : tie.Need-loop-holds Inv-loop μ-loop
+loop-holds c = frames-begin
+
+mul-advance : tie.Need-mul-advance Inv-loop μ-loop
+mul-advance c = search needs
+
+shared-slice-read-advance : tie.Need-shared-slice-read-advance Inv-loop μ-loop
+shared-slice-read-advance c = search needs
+
+advance-requires : tie.Need-advance-requires Inv-loop μ-loop
+advance-requires c κs = let s = c .before .before .before .before .before .before .before .before in frames-good Good (frame-good (s .args .shape) (s .args .p)) (s .pre) (c .before .before .before .loop .inv)
+
+mul-mix : tie.Need-mul-mix Inv-loop μ-loop
+mul-mix c = omega (arith, c .before .before .before .before .before .before .before .before .before .before .before)
+
+slice-read-mix : tie.Need-slice-read-mix Inv-loop μ-loop
+slice-read-mix c = search needs
+
+mix-requires : tie.Need-mix-requires Inv-loop μ-loop
+mix-requires c κs = search needs
+
+mul-out : tie.Need-mul-out Inv-loop μ-loop
+mul-out c = omega (arith, c .before .before .before .before .before .before .before .before .before .before .before .before .before)
+
+slice-write-out : tie.Need-slice-write-out Inv-loop μ-loop
+slice-write-out c = search needs
+
+add-i : tie.Need-add-i Inv-loop μ-loop
+add-i c = search needs
+
+loop-less : tie.Need-loop-less Inv-loop μ-loop
+loop-less c = search needs
+
+loop-again : tie.Need-loop-again Inv-loop μ-loop
+loop-again c =
+    let a = c .before .before .before .before .before .before .before .before .before .before .before .before .before .args in
+    let l = c .before .before .before .before .before .before .before .before .loop in
+    frames-turn nan nan (l .inv) (omega arith)
+    (rw (c .mix .ensures) (run-then (moved (a .shape) (a .p) _ (l .u .string, l .lines)) _ (l .u .word) (c .before .before .before .before .advance .ensures)))
+
+same-length : tie.Need-same-length Inv-loop μ-loop
+same-length c =
+    let s = c .before .before .before .before .before .before in
+    let g = frames-good Good (frame-good (s .args .shape) (s .args .p)) (s .pre) (c .before .loop .inv) in
+    omega (arith, s .pre .size, g .size)
+
+same-length-2 : tie.Need-same-length-2 Inv-loop μ-loop
+same-length-2 c = search needs
+
+returns : tie.Need-returns Inv-loop μ-loop
+returns c = frames-end (c .before .loop .inv) (omega arith)
+
+pub run-frames-spec : {M : Type 1} → statement M
+run-frames-spec =
+    tie.close
+    (tie.spec
+    Inv-loop
+    μ-loop
+    min-usize-requires
+    loop-holds
+    mul-advance
+    shared-slice-read-advance
+    advance-requires
+    mul-mix
+    slice-read-mix
+    mix-requires
+    mul-out
+    slice-write-out
+    add-i
+    loop-less
+    loop-again
+    same-length
+    same-length-2
+    returns)

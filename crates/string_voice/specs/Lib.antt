@@ -1,0 +1,3 @@
+-- What the functions of `string_voice` are proved equal to.
+pub mod String
+pub mod StringVoice

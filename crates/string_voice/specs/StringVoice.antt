@@ -1,0 +1,155 @@
+-- string_voice.rs: excitation -> filter -> string. A render is its two halves in order: `exciteOf`, then `soundOf`. Assumes nothing.
+use mathlib.Core.Bool.{Bool, true, false, _||_, cond}
+use mathlib.Core.List.{List}
+use Prim.Native.Nat.{ℕ, _-_, _≤_, min}
+use lib.ListN.{length, take, replicate}
+use lib.Ieee.{Float, lt}
+use Rattle.utils.specs.F32.{_⊕_, _⊖_, _⊗_, _⊘_, c0, c0·00005, c0·24, c0·25, c0·26, c0·499, c0·5, c0·99995, c1, c1·35135, c2, c4, c4·166, c6, c8, c72}
+use Rattle.utils.specs.Draw.{Draw, ret, ask, _>>=_}
+use Rattle.utils.specs.Frames.{frames, scan}
+use Rattle.utils.specs.Floats.{wholePart, minF}
+use Rattle.utils.specs.Random.{noiseOf}
+use Rattle.utils.specs.Units.{semitonesToRatio}
+use Rattle.utils.specs.Filter.{svfNew, svfInit, svfSetFQ, svfBuffer}
+use Rattle.utils.specs.declared.filter.FrequencyApproximation.the-variants.{Dirty}
+use Rattle.noise.specs.Dust.{dustOf}
+use Rattle.string_voice.specs.declared.string_voice.Knobs.{Knobs}
+use Rattle.string_voice.specs.declared.string_voice.StringVoice.{StringVoice}
+use Rattle.string_voice.specs.String.{stringNew, stringInit, stringReset, initOf, resetOf, nonLinearity, strung}
+
+-- ---- StringVoice::new, init and reset: the voice, and its lines
+
+unfoldable pub voiceNew : StringVoice
+voiceNew = record { «excitation_filter» = svfNew; string = stringNew; «remaining_noise_samples» = 0 }
+
+unfoldable pub voiceInit : StringVoice → Float → List Float → StringVoice × List Float
+voiceInit v rate lines =
+    let s = initOf (v .string) rate lines in
+    (record { «excitation_filter» = svfInit (v .«excitation_filter»); string = s .0; «remaining_noise_samples» = 0 }, s .1)
+
+-- reset leaves the excitation filter and what is left of the noise
+unfoldable pub voiceReset : StringVoice → List Float → StringVoice × List Float
+voiceReset v lines =
+    let s = resetOf (v .string) lines in
+    (record { «excitation_filter» = v .«excitation_filter»; string = s .0; «remaining_noise_samples» = v .«remaining_noise_samples» }, s .1)
+
+-- ---- the first half of render
+
+-- `x += 0.25 * accent * (1.0 - x)`, for brightness and for damping
+unfoldable pub raised : Float → Float → Float
+raised accent x = x ⊕ c0·25 ⊗ accent ⊗ (c1 ⊖ x)
+
+-- the semitones of the excitation's cutoff, and the cutoff
+unfoldable pub exciterSemitones : Float → Float
+exciterSemitones brightness = (brightness ⊗ (c2 ⊖ brightness) ⊖ c0·5) ⊗ c72
+
+unfoldable pub cutoffFor : Knobs → Float
+cutoffFor k = minF (c4 ⊗ k .f0 ⊗ semitonesToRatio (exciterSemitones (raised (k .accent) (k .brightness)))) c0·499
+
+-- with trigger or sustain the noise begins anew and the filter is set
+unfoldable pub struck : Knobs → StringVoice → StringVoice
+struck k v =
+    cond (k .trigger || k .sustain)
+    (record {
+      «excitation_filter» = svfSetFQ (v .«excitation_filter») (cutoffFor k) (cond (k .sustain) c1 c0·5) Dirty;
+      string = v .string;
+      «remaining_noise_samples» = wholePart (c1 ⊘ k .f0);
+    })
+    v
+
+-- with sustain a sample of dust in every frame
+unfoldable pub dustFrequency : Float → Float
+dustFrequency brightness = let density = brightness ⊗ brightness in c0·00005 ⊕ c0·99995 ⊗ density ⊗ density
+
+abbrev pub dustStep : Float → Float → Unit {0} → Float → Float → Draw (Unit {0} × Float)
+dustStep f accent s x y = dustOf f >>= λ u. ret (s, u ⊗ (c8 ⊖ f ⊗ c6) ⊗ accent)
+
+unfoldable pub dusted : Float → Float → List Float → Draw (List Float)
+dusted f accent temp = frames (dustStep f accent) tt temp temp >>= λ q. ret (q .1)
+
+-- without it silence, and noise in its first m frames
+abbrev pub silence : List Float → List Float
+silence ys = replicate (length ys) c0
+
+abbrev pub noiseStep : Unit {0} → Float → Float → Draw (Unit {0} × Float)
+noiseStep s x y = ask (λ w. ret (s, noiseOf w))
+
+unfoldable pub burst : ℕ → List Float → Draw (List Float)
+burst m temp = let quiet = silence temp in frames noiseStep tt (take m quiet) quiet >>= λ q. ret (q .1)
+
+-- what is left of the noise goes into a block as far as it has frames
+unfoldable pub excitation : Bool → Knobs → ℕ → List Float → Draw (List Float)
+excitation true k left temp = dusted (dustFrequency (k .brightness)) (k .accent) temp
+excitation false k left temp = burst (min left (length temp)) temp
+
+-- a buffer added into another
+abbrev pub addStep : Unit {0} → Float → Float → Unit {0} × Float
+addStep s x y = (s, y ⊕ x)
+
+abbrev pub added : List Float → List Float → List Float
+added xs ys = scan addStep tt xs ys .1
+
+-- what the first half leaves
+pub record Excited : Type 0 where
+  pub voice : StringVoice
+  pub temp : List Float
+  pub temp2 : List Float
+  pub aux : List Float
+
+-- the voice after the burst, with the filter's memory
+abbrev pub keptOf : Knobs → StringVoice → ℕ → StringVoice
+keptOf k v n =
+    record {
+      «excitation_filter» = v .«excitation_filter»;
+      string = v .string;
+      «remaining_noise_samples» = cond (k .sustain) (v .«remaining_noise_samples») (v .«remaining_noise_samples» - min (v .«remaining_noise_samples») n);
+    }
+
+unfoldable pub exciteOf : Knobs → StringVoice → List Float → List Float → List Float → Draw Excited
+exciteOf k v temp temp2 aux =
+    let s = struck k v in
+    excitation (k .sustain) k (s .«remaining_noise_samples») temp >>= λ t.
+    let f = svfBuffer (s .«excitation_filter») t temp2 in
+    let w = keptOf k s (length temp) in
+    ret record {
+      voice = record { «excitation_filter» = f .0; string = w .string; «remaining_noise_samples» = w .«remaining_noise_samples» };
+      temp = t;
+      temp2 = f .1;
+      aux = added (f .1) aux;
+    }
+
+-- ---- the second half
+
+-- the amount of the non-linearity: below 0.24 negative, above 0.26 positive, between them 0
+unfoldable pub amount : Float → Float
+amount structure = cond (lt structure c0·24) ((structure ⊖ c0·24) ⊗ c4·166) (cond (lt c0·26 structure) ((structure ⊖ c0·26) ⊗ c1·35135) c0)
+
+-- what the second half leaves
+pub record Sounded : Type 0 where
+  pub voice : StringVoice
+  pub lines : List Float
+  pub out : List Float
+
+unfoldable pub soundOf : Knobs → StringVoice → List Float → List Float → List Float → Draw Sounded
+soundOf k v lines temp2 out =
+    strung (nonLinearity (amount (k .structure))) (k .f0) (raised (k .accent) (k .brightness)) (raised (k .accent) (k .damping)) (v .string, lines) temp2 out >>= λ s.
+    ret record {
+      voice = record { «excitation_filter» = v .«excitation_filter»; string = s .0 .0; «remaining_noise_samples» = v .«remaining_noise_samples» };
+      lines = s .0 .1;
+      out = s .1;
+    }
+
+-- ---- StringVoice::render: what it leaves, the voice, its lines and each buffer
+pub record After : Type 0 where
+  pub voice : StringVoice
+  pub lines : List Float
+  pub temp : List Float
+  pub temp2 : List Float
+  pub out : List Float
+  pub aux : List Float
+
+unfoldable pub renderOf : Knobs → StringVoice → List Float → List Float → List Float → List Float → List Float → Draw After
+renderOf k v lines temp temp2 out aux =
+    exciteOf k v temp temp2 aux >>= λ e.
+    soundOf k (e .voice) lines (e .temp2) out >>= λ s.
+    ret record { voice = s .voice; lines = s .lines; temp = e .temp; temp2 = e .temp2; out = s .out; aux = e .aux }

@@ -1,0 +1,298 @@
+// Extended Karplus-Strong, with all the niceties from Rings.
+ghost use mathlib.Core.Path.{_≡_};
+ghost use mathlib.Core.Bool.{cond};
+ghost use Prim.Native.Nat.{_≤_, _-_, _^_, min};
+ghost use lib.ListN.{length};
+ghost use Rattle.utils.specs.F32.{c0·5, c1};
+ghost use Rattle.utils.specs.Draw.{run, Ran};
+ghost use Rattle.string_voice.specs.String.{Good};
+ghost use Rattle.string_voice.specs.StringVoice.{voiceNew, voiceInit, voiceReset, raised, cutoffFor, struck, dustFrequency, dusted, silence, burst, excitation, added, Excited, exciteOf, amount, Sounded, soundOf, After, renderOf};
+use crate::string::String;
+use utils::filter::FrequencyApproximation;
+use utils::filter::Svf;
+
+// What a render is given beside its buffers.
+pub struct Knobs {
+    pub sustain: bool,
+    pub trigger: bool,
+    pub accent: f32,
+    pub f0: f32,
+    pub structure: f32,
+    pub brightness: f32,
+    pub damping: f32,
+}
+
+// A voice. Its lines are lent: the string line of 1,024 numbers and the stretch line of 256 behind it.
+pub struct StringVoice {
+    pub excitation_filter: Svf,
+    pub string: String,
+    pub remaining_noise_samples: usize,
+}
+
+// A voice after a render or a half of one, and the generator's word.
+pub struct Rendered {
+    pub voice: StringVoice,
+    pub word: u32,
+}
+
+// x moved a quarter of the way to 1, as far as the accent says.
+fn raise(accent: f32, x: f32) -> f32
+    ensures { λ r. ⌜ r ≡ raised accent x ⌝ }
+{
+    x + 0.25 * accent * (1.0 - x)
+}
+
+// The cutoff of the excitation filter.
+fn cutoff_for(k: Knobs) -> f32
+    ensures { λ r. ⌜ r ≡ cutoffFor k ⌝ }
+{
+    let brightness = raise(k.accent, k.brightness);
+    let ratio = utils::units::semitones_to_ratio((brightness * (2.0 - brightness) - 0.5) * 72.0);
+    utils::floats::min(4.0 * k.f0 * ratio, 0.499)
+}
+
+fn resonance(sustain: bool) -> f32
+    ensures { λ r. ⌜ r ≡ cond sustain c1 c0·5 ⌝ }
+{
+    if sustain {
+        return 1.0;
+    }
+    0.5
+}
+
+fn dust_frequency(brightness: f32) -> f32
+    ensures { λ r. ⌜ r ≡ dustFrequency brightness ⌝ }
+{
+    let density = brightness * brightness;
+    0.00005 + 0.99995 * density * density
+}
+
+fn fill_dust(f: f32, accent: f32, temp: &mut [f32], word: u32) -> u32
+    ensures { λ r. ⌜ run (dusted f accent (now (temp .entry))) word ≡ record { value = now (temp .exit); word = r } ⌝ }
+{
+    let n = temp.len();
+    let mut w = word;
+    let mut i = 0;
+    while i < n {
+        let d = noise::dust::dust(f, w);
+        temp[i] = d.value * (8.0 - f * 6.0) * accent;
+        w = d.word;
+        i += 1;
+    }
+    w
+}
+
+// Noise in the first m frames, silence behind.
+fn fill_noise(m: usize, temp: &mut [f32], word: u32) -> u32
+    requires { ⌜ m ≤ length (now temp) ⌝ }
+    ensures { λ r. ⌜ run (burst m (now (temp .entry))) word ≡ record { value = now (temp .exit); word = r } ⌝ }
+{
+    utils::delay_line::reset(temp);
+    let mut w = word;
+    let mut i = 0;
+    while i < m {
+        w = utils::random::get_word(w);
+        temp[i] = utils::random::noise(w);
+        i += 1;
+    }
+    w
+}
+
+// Dust where the voice is sustained; else what is left of the noise, and silence behind.
+fn fill_excitation(k: Knobs, left: usize, temp: &mut [f32], word: u32) -> u32
+    ensures { λ r. ⌜ run (excitation (k .sustain) k left (now (temp .entry))) word ≡ record { value = now (temp .exit); word = r } ⌝ }
+{
+    if k.sustain {
+        return fill_dust(dust_frequency(k.brightness), k.accent, temp, word);
+    }
+    let m = utils::min_usize(left, temp.len());
+    fill_noise(m, temp, word)
+}
+
+fn add_into(in_: &[f32], out: &mut [f32])
+    ensures { λ _. ⌜ now (out .exit) ≡ added (now (in_ .entry)) (now (out .entry)) ⌝ }
+{
+    let n = utils::min_usize(in_.len(), out.len());
+    let mut i = 0;
+    while i < n {
+        out[i] += in_[i];
+        i += 1;
+    }
+}
+
+// What is left of the noise after a block of n.
+fn noise_left(sustain: bool, left: usize, n: usize) -> usize
+    ensures { λ r. ⌜ r ≡ cond sustain left (left - min left n) ⌝ }
+{
+    if sustain {
+        return left;
+    }
+    left - utils::min_usize(left, n)
+}
+
+fn amount_for(structure: f32) -> f32
+    ensures { λ r. ⌜ r ≡ amount structure ⌝ }
+{
+    if structure < 0.24 {
+        return (structure - 0.24) * 4.166;
+    }
+    if structure > 0.26 {
+        return (structure - 0.26) * 1.35135;
+    }
+    0.0
+}
+
+impl StringVoice {
+    pub fn new() -> StringVoice
+        ensures { λ r. ⌜ r ≡ voiceNew ⌝ }
+    {
+        let excitation_filter = Svf::new();
+        let string = String::new();
+        StringVoice {
+            excitation_filter,
+            string,
+            remaining_noise_samples: 0,
+        }
+    }
+
+    pub fn init(self, sample_rate_hz: f32, lines: &mut [f32]) -> StringVoice
+        ensures { λ r. ⌜ (r, now (lines .exit)) ≡ voiceInit self «sample_rate_hz» (now (lines .entry)) ⌝ }
+    {
+        let filter = self.excitation_filter;
+        let excitation_filter = filter.init();
+        let old = self.string;
+        let string = old.init(sample_rate_hz, lines);
+        StringVoice {
+            excitation_filter,
+            string,
+            remaining_noise_samples: 0,
+        }
+    }
+
+    pub fn reset(self, lines: &mut [f32]) -> StringVoice
+        ensures { λ r. ⌜ (r, now (lines .exit)) ≡ voiceReset self (now (lines .entry)) ⌝ }
+    {
+        let excitation_filter = self.excitation_filter;
+        let old = self.string;
+        let string = old.reset(lines);
+        let left = self.remaining_noise_samples;
+        StringVoice {
+            excitation_filter,
+            string,
+            remaining_noise_samples: left,
+        }
+    }
+
+    // With trigger or sustain the noise begins anew and the filter is set.
+    fn strike(self, k: Knobs) -> StringVoice
+        ensures { λ r. ⌜ r ≡ struck k self ⌝ }
+    {
+        if !(k.trigger | k.sustain) {
+            return self;
+        }
+        let filter = self.excitation_filter;
+        let q = resonance(k.sustain);
+        let excitation_filter = filter.set_f_q(cutoff_for(k), q, FrequencyApproximation::Dirty);
+        let string = self.string;
+        StringVoice {
+            excitation_filter,
+            string,
+            remaining_noise_samples: utils::floats::whole_part(1.0 / k.f0),
+        }
+    }
+
+    // The first half of `render`: the excitation, its filter, and the mix into aux.
+    pub fn excite(
+        self,
+        k: Knobs,
+        temp: &mut [f32],
+        temp_2: &mut [f32],
+        aux: &mut [f32],
+        word: u32,
+    ) -> Rendered
+        ensures { λ r. ⌜ run (exciteOf k self (now (temp .entry)) (now («temp_2» .entry)) (now (aux .entry))) word ≡ record {
+          value = record { voice = r .voice; temp = now (temp .exit); temp2 = now («temp_2» .exit); aux = now (aux .exit) };
+          word = r .word;
+        } ⌝ }
+    {
+        let struck = self.strike(k);
+        let before = struck.remaining_noise_samples;
+        let left = noise_left(k.sustain, before, temp.len());
+        let drawn = fill_excitation(k, before, temp, word);
+        let filter = struck.excitation_filter;
+        let excitation_filter = filter.process_buffer(temp, temp_2);
+        add_into(temp_2, aux);
+        let string = struck.string;
+        let voice = StringVoice {
+            excitation_filter,
+            string,
+            remaining_noise_samples: left,
+        };
+        Rendered { voice, word: drawn }
+    }
+
+    // The second half: the string from temp_2 into out.
+    pub fn sound(
+        self,
+        k: Knobs,
+        lines: &mut [f32],
+        temp_2: &[f32],
+        out: &mut [f32],
+        word: u32,
+    ) -> Rendered
+        requires { ⌜ Good (self .string, now lines) × (length (now out) ≤ 2 ^ 24) ⌝ }
+        ensures { λ r. ⌜ run (soundOf k self (now (lines .entry)) (now («temp_2» .entry)) (now (out .entry))) word ≡ record {
+          value = record { voice = r .voice; lines = now (lines .exit); out = now (out .exit) };
+          word = r .word;
+        } ⌝ }
+    {
+        let shape = crate::string::non_linearity(amount_for(k.structure));
+        let brightness = raise(k.accent, k.brightness);
+        let damping = raise(k.accent, k.damping);
+        let before = self.string;
+        let live = crate::string::Live {
+            string: before,
+            word,
+        };
+        let s = crate::string::process(lines, live, shape, k.f0, brightness, damping, temp_2, out);
+        let excitation_filter = self.excitation_filter;
+        let string = s.string;
+        let voice = StringVoice {
+            excitation_filter,
+            string,
+            remaining_noise_samples: self.remaining_noise_samples,
+        };
+        Rendered {
+            voice,
+            word: s.word,
+        }
+    }
+
+    pub fn render(
+        self,
+        k: Knobs,
+        lines: &mut [f32],
+        temp: &mut [f32],
+        temp_2: &mut [f32],
+        out: &mut [f32],
+        aux: &mut [f32],
+        word: u32,
+    ) -> Rendered
+        requires { ⌜ Good (self .string, now lines) × (length (now out) ≤ 2 ^ 24) ⌝ }
+        ensures { λ r. ⌜ run (renderOf k self (now (lines .entry)) (now (temp .entry)) (now («temp_2» .entry)) (now (out .entry)) (now (aux .entry))) word ≡ record {
+          value = record {
+            voice = r .voice;
+            lines = now (lines .exit);
+            temp = now (temp .exit);
+            temp2 = now («temp_2» .exit);
+            out = now (out .exit);
+            aux = now (aux .exit);
+          };
+          word = r .word;
+        } ⌝ }
+    {
+        let e = self.excite(k, temp, temp_2, aux, word);
+        let excited = e.voice;
+        excited.sound(k, lines, temp_2, out, e.word)
+    }
+}

@@ -1,0 +1,71 @@
+// Blocks of a string voice, one after the other.
+ghost use mathlib.Core.Path.{_≡_};
+ghost use Rattle.utils.specs.Draw.{run, Ran};
+ghost use Rattle.string_voice.specs.StringVoice.{After};
+ghost use Rattle.strings_abi.specs.Strings.{sizesFit, blocksOf};
+use string_voice::string_voice::Knobs;
+use string_voice::string_voice::Rendered;
+use string_voice::string_voice::StringVoice;
+
+// Whether lines and buffers have a voice's sizes.
+fn fits(lines: usize, temp: usize, temp_2: usize, out: usize, aux: usize) -> bool
+    ensures { λ r. ⌜ r ≡ sizesFit lines temp «temp_2» out aux ⌝ }
+{
+    (lines == 1280) & (temp == out) & (temp_2 == out) & (aux == out) & (out < 4097)
+}
+
+// A new voice renders the same buffers over and over; gives the generator's word after them.
+// Lines and buffers of other sizes than a voice's are left alone.
+#[no_mangle]
+pub extern "C" fn strings_render(
+    sample_rate_hz: f32,
+    sustain: bool,
+    trigger: bool,
+    accent: f32,
+    f0: f32,
+    structure: f32,
+    brightness: f32,
+    damping: f32,
+    blocks: usize,
+    lines: &mut [f32],
+    temp: &mut [f32],
+    temp_2: &mut [f32],
+    out: &mut [f32],
+    aux: &mut [f32],
+    word: u32,
+) -> u32
+    ensures { λ r. ⌜ run (blocksOf «sample_rate_hz» (record {
+      sustain = sustain;
+      trigger = trigger;
+      accent = accent;
+      f0 = f0;
+      structure = structure;
+      brightness = brightness;
+      damping = damping;
+    }) blocks (now (lines .entry)) (now (temp .entry)) (now («temp_2» .entry)) (now (out .entry)) (now (aux .entry))) word ≡ record {
+      value = (now (lines .exit), (now (temp .exit), (now («temp_2» .exit), (now (out .exit), now (aux .exit)))));
+      word = r;
+    } ⌝ }
+{
+    if !fits(lines.len(), temp.len(), temp_2.len(), out.len(), aux.len()) {
+        return word;
+    }
+    let k = Knobs {
+        sustain,
+        trigger,
+        accent,
+        f0,
+        structure,
+        brightness,
+        damping,
+    };
+    let voice = StringVoice::new().init(sample_rate_hz, lines);
+    let mut r = Rendered { voice, word };
+    let mut i = 0;
+    while i < blocks {
+        let v = r.voice;
+        r = v.render(k, lines, temp, temp_2, out, aux, r.word);
+        i += 1;
+    }
+    r.word
+}

@@ -1,0 +1,11 @@
+-- Laws that the proofs of this crate and of others cite.
+pub mod Draw
+pub mod Frames
+pub mod Part
+pub mod Words
+pub mod Rounding
+pub mod Signs
+pub mod Wholes
+pub mod DelayLine
+pub mod Constants
+pub mod Increments

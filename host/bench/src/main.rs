@@ -1,0 +1,27 @@
+//! Times the port's leaves beside the Rust's: both built for release, alternated in one run, the ratio of each pair taken.
+
+use std::process::ExitCode;
+
+#[cfg(not(any(no_plaits, no_leaves)))]
+mod leaves;
+#[cfg(not(any(no_plaits, no_leaves)))]
+mod ratio;
+#[cfg(not(any(no_plaits, no_leaves)))]
+mod run;
+#[cfg(not(any(no_plaits, no_leaves)))]
+mod strings;
+
+#[cfg(not(any(no_plaits, no_leaves)))]
+fn main() -> ExitCode {
+    run::all();
+    strings::all();
+    ExitCode::SUCCESS
+}
+
+#[cfg(any(no_plaits, no_leaves))]
+fn main() -> ExitCode {
+    eprintln!(
+        "bench: the Rust source or a library of target/staticlib is missing; run `make bench`"
+    );
+    ExitCode::FAILURE
+}
