@@ -219,7 +219,8 @@ impl Choice {
             let infinite = turn(0.925, |damping| damping + 0.25 * accent * (1.0 - damping) >= 0.95);
             self.open(rate);
             for brightness in [0.0, -0.0, 0.5, 1.0] {
-                for damping in [0.0, -0.0, 0.5, 1.0].into_iter().chain(infinite) {
+                let ends = [0.0, -0.0, 0.5, 1f32.next_down(), 1.0];
+                for damping in ends.into_iter().chain(infinite) {
                     let play = self.pick(&[Trigger, Sustain, Both]);
                     let structure = self.pick(&[0.0, 0.1, 0.25, 0.6, 0.95]);
                     let knobs = Knobs { accent, f0, structure, brightness, damping };
