@@ -59,26 +59,45 @@ both true false e = (refl, e)
 both false true e = (e, refl)
 both false false e = (e, e)
 
-pub opened-sized : (rate : Float) (lines temp temp2 out aux : List Float) → sizesFit (length lines) (length temp) (length temp2) (length out) (length aux) ≡ true
-    → Sized (length out) (opened rate lines temp temp2 out aux)
-unfolding voiceInit stringInit
-opened-sized rate lines temp temp2 out aux e =
+-- what fitting sizes are
+record Fitting (lines temp temp2 out aux : List Float) : Type 0 where
+  lines-are : length lines ≡ 1280
+  temp-is : length temp ≡ length out
+  temp2-is : length temp2 ≡ length out
+  aux-is : length aux ≡ length out
+  small : length out ≤ 4096
+
+fitting : (lines temp temp2 out aux : List Float) → sizesFit (length lines) (length temp) (length temp2) (length out) (length aux) ≡ true → Fitting lines temp temp2 out aux
+fitting lines temp temp2 out aux e =
     let n = length out in
     let q₄ = both (eqb (length lines) 1280 && eqb (length temp) n && eqb (length temp2) n && eqb (length aux) n) (ltb n 4097) e in
     let q₃ = both (eqb (length lines) 1280 && eqb (length temp) n && eqb (length temp2) n) (eqb (length aux) n) (q₄ .0) in
     let q₂ = both (eqb (length lines) 1280 && eqb (length temp) n) (eqb (length temp2) n) (q₃ .0) in
     let q₁ = both (eqb (length lines) 1280) (eqb (length temp) n) (q₂ .0) in
     record {
+      lines-are = eqb-true (length lines) 1280 (q₁ .0);
+      temp-is = eqb-true (length temp) n (q₁ .1);
+      temp2-is = eqb-true (length temp2) n (q₂ .1);
+      aux-is = eqb-true (length aux) n (q₃ .1);
       small = omega (arith, ltb-true n 4097 (q₄ .1));
+    }
+
+pub opened-sized : (rate : Float) (lines temp temp2 out aux : List Float) → sizesFit (length lines) (length temp) (length temp2) (length out) (length aux) ≡ true
+    → Sized (length out) (opened rate lines temp temp2 out aux)
+unfolding voiceInit stringInit
+opened-sized rate lines temp temp2 out aux e =
+    let f = fitting lines temp temp2 out aux e in
+    record {
+      small = f .small;
       good = record {
-        size = length-replicate (length lines) c0 ∙ eqb-true (length lines) 1280 (q₁ .0);
+        size = length-replicate (length lines) c0 ∙ f .lines-are;
         string = omega arith;
         stretch = omega arith;
       };
-      temp = eqb-true (length temp) n (q₁ .1);
-      temp2 = eqb-true (length temp2) n (q₂ .1);
+      temp = f .temp-is;
+      temp2 = f .temp2-is;
       out = refl;
-      aux = eqb-true (length aux) n (q₃ .1);
+      aux = f .aux-is;
     }
 
 -- what the code has before its loop is a new voice
@@ -90,12 +109,7 @@ opened-is rate lines temp temp2 out aux v r l e f =
 
 -- the lines were 1,280 from the start
 pub lines-size : (lines temp temp2 out aux : List Float) → sizesFit (length lines) (length temp) (length temp2) (length out) (length aux) ≡ true → length lines ≡ 1280
-lines-size lines temp temp2 out aux e =
-    let n = length out in
-    let q₄ = both (eqb (length lines) 1280 && eqb (length temp) n && eqb (length temp2) n && eqb (length aux) n) (ltb n 4097) e in
-    let q₃ = both (eqb (length lines) 1280 && eqb (length temp) n && eqb (length temp2) n) (eqb (length aux) n) (q₄ .0) in
-    let q₂ = both (eqb (length lines) 1280 && eqb (length temp) n) (eqb (length temp2) n) (q₃ .0) in
-    eqb-true (length lines) 1280 (both (eqb (length lines) 1280) (eqb (length temp) n) (q₂ .0) .0)
+lines-size lines temp temp2 out aux e = fitting lines temp temp2 out aux e .lines-are
 
 -- ---- the whole
 pub refused : (rate : Float) (k : Knobs) (blocks : ℕ) (lines temp temp2 out aux : List Float) (w : ℕ)
