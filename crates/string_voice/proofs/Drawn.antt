@@ -15,25 +15,20 @@ use Rattle.utils.specs.declared.filter.FrequencyApproximation.the-variants.{Dir
 use Rattle.utils.specs.Draw.{ret, _>>=_}
 use Rattle.utils.proofs.Draw.{Draws, draws-bind, draws-then}
 use Rattle.utils.proofs.Frames.{Any, after, drawn, frames-draws-each, length-scan}
-use Rattle.noise.specs.Dust.{dustOf}
+use Rattle.noise.specs.Excitation.{raised, dustFrequency, silence, addStep}
+use Rattle.noise.proofs.Drawn.{dusted-draws}
 use Rattle.string_voice.specs.declared.string.StringNonLinearity.{StringNonLinearity}
 use Rattle.string_voice.specs.declared.string.String.{String}
-use Rattle.string_voice.specs.declared.string_voice.Knobs.{Knobs}
+use Rattle.noise.specs.declared.excitation.Knobs.{Knobs}
 use Rattle.string_voice.specs.declared.string_voice.StringVoice.{StringVoice}
 use Rattle.string_voice.specs.String.{ratioOf, snap, nonLinearity, strung, Good}
-use Rattle.string_voice.specs.StringVoice.{raised, cutoffFor, struck, dustFrequency, dustStep, dusted, silence, noiseStep, burst, excitation, addStep, Excited, exciteOf, amount, Sounded, soundOf, After, renderOf}
+use Rattle.string_voice.specs.StringVoice.{cutoffFor, struck, noiseStep, burst, excitation, Excited, exciteOf, amount, Sounded, soundOf, After, renderOf}
 use Rattle.string_voice.proofs.Steps.{wrap, wordsAt, At}
 use Rattle.string_voice.proofs.Blocks.{ratioFor, strung-draws}
 use Rattle.string_voice.proofs.Halves.{struck-string}
 use Rattle.string_voice.proofs.Ranges.{Fundamental, left-in}
 
 -- ---- the excitation
-
-dusted-draws : (f accent : Float) (n : ℕ) (temp : List Float) → length temp ≡ n → Draws n (λ t. length t ≡ n) (dusted f accent temp)
-unfolding dusted dustOf
-dusted-draws f accent n temp e =
-    draws-then n (λ q. Any (q .0) × (length (q .1) ≡ length temp)) (λ t. length t ≡ n) (frames (dustStep f accent) tt temp temp) _
-    (frames-draws-each (dustStep f accent) Any (λ s x y h. (0, refl, λ w. (refl, tt))) n tt temp temp (omega arith) tt) (λ q p. p .1 ∙ e)
 
 burst-draws : (m n : ℕ) (temp : List Float) → length temp ≡ n → m ≤ n → Draws m (λ t. length t ≡ n) (burst m temp)
 unfolding burst
@@ -53,7 +48,7 @@ dustWords sustain n = cond sustain n 0
 excitation-draws : (sustain : Bool) (k : Knobs) (left n : ℕ) (temp : List Float) → length temp ≡ n
     → Draws (burstWords sustain left n + dustWords sustain n) (λ t. length t ≡ n) (excitation sustain k left temp)
 unfolding excitation
-excitation-draws true k left n temp e = rw zero-add (dusted-draws (dustFrequency (k .brightness)) (k .accent) n temp e)
+excitation-draws true k left n temp e = rw zero-add (dusted-draws (dustFrequency (k .brightness)) _ (k .accent) n temp e)
 excitation-draws false k left n temp e = rw (add-zero, e) (burst-draws (min left n) n temp e (omega arith))
 
 -- ---- the first half

@@ -16,10 +16,11 @@ use Rattle.utils.proofs.Draw.{run-then, Always, always-bind, always-run}
 use Rattle.utils.proofs.Frames.{Any, always-any}
 use Rattle.string_voice.specs.declared.string.StringNonLinearity.{StringNonLinearity}
 use Rattle.string_voice.specs.declared.string.String.{String}
-use Rattle.string_voice.specs.declared.string_voice.Knobs.{Knobs}
+use Rattle.noise.specs.declared.excitation.Knobs.{Knobs}
+use Rattle.noise.specs.Excitation.{raised, added}
 use Rattle.string_voice.specs.declared.string_voice.StringVoice.{StringVoice}
 use Rattle.string_voice.specs.String.{nonLinearity, strung, Good}
-use Rattle.string_voice.specs.StringVoice.{raised, exciterSemitones, cutoffFor, struck, excitation, added, Excited, exciteOf, amount, soundOf, renderOf}
+use Rattle.string_voice.specs.StringVoice.{exciterSemitones, cutoffFor, struck, excitation, Excited, exciteOf, amount, soundOf, renderOf}
 
 pub cut-off : (k : Knobs) (b ratio r : Float) → b ≡ raised (k .accent) (k .brightness) → ratio ≡ semitonesToRatio ((b ⊗ (c2 ⊖ b) ⊖ c0·5) ⊗ c72)
     → r ≡ minF (c4 ⊗ k .f0 ⊗ ratio) c0·499 → r ≡ cutoffFor k

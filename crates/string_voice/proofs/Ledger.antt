@@ -7,7 +7,7 @@ use lib.IntN.{negsuc}
 use lib.Ieee.{Float, fin, binary32, ofBits, ofInt, add, sub, mul, div, lt, le, neg, toUnsigned}
 use Rattle.utils.specs.F32.{_⊕_, c0, c0·5, c1}
 use Rattle.utils.specs.Floats.{wholePart, clampF}
-use Rattle.string_voice.specs.declared.string_voice.Knobs.{Knobs}
+use Rattle.noise.specs.declared.excitation.Knobs.{Knobs}
 use Rattle.string_voice.specs.declared.string_voice.StringVoice.{StringVoice}
 use Rattle.string_voice.specs.String.{stringInit, delayOf, ratioOf, nonLinearity}
 use Rattle.string_voice.specs.StringVoice.{voiceNew, voiceInit, struck, amount}

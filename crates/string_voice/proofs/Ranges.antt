@@ -17,7 +17,8 @@ use Rattle.bounds.proofs.Bounds.{int, minus, part, Between, encloses, inside, s
 use Rattle.bounds.proofs.Indices.{whole-at-most, low-index}
 use Rattle.string_voice.specs.declared.string.Damping.{Damping}
 use Rattle.string_voice.specs.String.{cutoffOf, dampingF, dampingOf}
-use Rattle.string_voice.specs.StringVoice.{raised, exciterSemitones}
+use Rattle.noise.specs.Excitation.{raised}
+use Rattle.string_voice.specs.StringVoice.{exciterSemitones}
 
 -- ---- an accepted knob and an accepted f0: from 0 to 1, and from 2^-20 to 0.5
 abbrev pub lowestF0 : Float

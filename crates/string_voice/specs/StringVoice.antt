@@ -2,9 +2,9 @@
 use mathlib.Core.Bool.{Bool, true, false, _||_, cond}
 use mathlib.Core.List.{List}
 use Prim.Native.Nat.{ℕ, _-_, _≤_, min}
-use lib.ListN.{length, take, replicate}
+use lib.ListN.{length, take}
 use lib.Ieee.{Float, lt}
-use Rattle.utils.specs.F32.{_⊕_, _⊖_, _⊗_, _⊘_, c0, c0·00005, c0·24, c0·25, c0·26, c0·499, c0·5, c0·99995, c1, c1·35135, c2, c4, c4·166, c6, c8, c72}
+use Rattle.utils.specs.F32.{_⊖_, _⊗_, _⊘_, c0, c0·24, c0·26, c0·499, c0·5, c1, c1·35135, c2, c4, c4·166, c6, c8, c72}
 use Rattle.utils.specs.Draw.{Draw, ret, ask, _>>=_}
 use Rattle.utils.specs.Frames.{frames, scan}
 use Rattle.utils.specs.Floats.{wholePart, minF}
@@ -12,8 +12,8 @@ use Rattle.utils.specs.Random.{noiseOf}
 use Rattle.utils.specs.Units.{semitonesToRatio}
 use Rattle.utils.specs.Filter.{svfNew, svfInit, svfSetFQ, svfBuffer}
 use Rattle.utils.specs.declared.filter.FrequencyApproximation.the-variants.{Dirty}
-use Rattle.noise.specs.Dust.{dustOf}
-use Rattle.string_voice.specs.declared.string_voice.Knobs.{Knobs}
+use Rattle.noise.specs.declared.excitation.Knobs.{Knobs}
+use Rattle.noise.specs.Excitation.{raised, dustFrequency, dusted, silence, added}
 use Rattle.string_voice.specs.declared.string_voice.StringVoice.{StringVoice}
 use Rattle.string_voice.specs.String.{stringNew, stringInit, stringReset, initOf, resetOf, nonLinearity, strung}
 
@@ -35,10 +35,6 @@ voiceReset v lines =
 
 -- ---- the first half of render
 
--- `x += 0.25 * accent * (1.0 - x)`, for brightness and for damping
-unfoldable pub raised : Float → Float → Float
-raised accent x = x ⊕ c0·25 ⊗ accent ⊗ (c1 ⊖ x)
-
 -- the semitones of the excitation's cutoff, and the cutoff
 unfoldable pub exciterSemitones : Float → Float
 exciterSemitones brightness = (brightness ⊗ (c2 ⊖ brightness) ⊖ c0·5) ⊗ c72
@@ -57,37 +53,17 @@ struck k v =
     })
     v
 
--- with sustain a sample of dust in every frame
-unfoldable pub dustFrequency : Float → Float
-dustFrequency brightness = let density = brightness ⊗ brightness in c0·00005 ⊕ c0·99995 ⊗ density ⊗ density
-
-abbrev pub dustStep : Float → Float → Unit {0} → Float → Float → Draw (Unit {0} × Float)
-dustStep f accent s x y = dustOf f >>= λ u. ret (s, u ⊗ (c8 ⊖ f ⊗ c6) ⊗ accent)
-
-unfoldable pub dusted : Float → Float → List Float → Draw (List Float)
-dusted f accent temp = frames (dustStep f accent) tt temp temp >>= λ q. ret (q .1)
-
--- without it silence, and noise in its first m frames
-abbrev pub silence : List Float → List Float
-silence ys = replicate (length ys) c0
-
+-- without sustain silence, and noise in its first m frames
 abbrev pub noiseStep : Unit {0} → Float → Float → Draw (Unit {0} × Float)
 noiseStep s x y = ask (λ w. ret (s, noiseOf w))
 
 unfoldable pub burst : ℕ → List Float → Draw (List Float)
 burst m temp = let quiet = silence temp in frames noiseStep tt (take m quiet) quiet >>= λ q. ret (q .1)
 
--- what is left of the noise goes into a block as far as it has frames
+-- with sustain dust, else what is left of the noise as far as the block has frames
 unfoldable pub excitation : Bool → Knobs → ℕ → List Float → Draw (List Float)
-excitation true k left temp = dusted (dustFrequency (k .brightness)) (k .accent) temp
+excitation true k left temp = let f = dustFrequency (k .brightness) in dusted f (c8 ⊖ f ⊗ c6) (k .accent) temp
 excitation false k left temp = burst (min left (length temp)) temp
-
--- a buffer added into another
-abbrev pub addStep : Unit {0} → Float → Float → Unit {0} × Float
-addStep s x y = (s, y ⊕ x)
-
-abbrev pub added : List Float → List Float → List Float
-added xs ys = scan addStep tt xs ys .1
 
 -- what the first half leaves
 pub record Excited : Type 0 where

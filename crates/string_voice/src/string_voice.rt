@@ -6,21 +6,12 @@ ghost use lib.ListN.{length};
 ghost use Rattle.utils.specs.F32.{c0·5, c1};
 ghost use Rattle.utils.specs.Draw.{run, Ran};
 ghost use Rattle.string_voice.specs.String.{Good};
-ghost use Rattle.string_voice.specs.StringVoice.{voiceNew, voiceInit, voiceReset, raised, cutoffFor, struck, dustFrequency, dusted, silence, burst, excitation, added, Excited, exciteOf, amount, Sounded, soundOf, After, renderOf};
+ghost use Rattle.noise.specs.Excitation.{added};
+ghost use Rattle.string_voice.specs.StringVoice.{voiceNew, voiceInit, voiceReset, cutoffFor, struck, burst, excitation, Excited, exciteOf, amount, Sounded, soundOf, After, renderOf};
 use crate::string::String;
+use noise::excitation::Knobs;
 use utils::filter::FrequencyApproximation;
 use utils::filter::Svf;
-
-// What a render is given beside its buffers.
-pub struct Knobs {
-    pub sustain: bool,
-    pub trigger: bool,
-    pub accent: f32,
-    pub f0: f32,
-    pub structure: f32,
-    pub brightness: f32,
-    pub damping: f32,
-}
 
 // A voice. Its lines are lent: the string line of 1,024 numbers and the stretch line of 256 behind it.
 pub struct StringVoice {
@@ -35,18 +26,11 @@ pub struct Rendered {
     pub word: u32,
 }
 
-// x moved a quarter of the way to 1, as far as the accent says.
-fn raise(accent: f32, x: f32) -> f32
-    ensures { λ r. ⌜ r ≡ raised accent x ⌝ }
-{
-    x + 0.25 * accent * (1.0 - x)
-}
-
 // The cutoff of the excitation filter.
 fn cutoff_for(k: Knobs) -> f32
     ensures { λ r. ⌜ r ≡ cutoffFor k ⌝ }
 {
-    let brightness = raise(k.accent, k.brightness);
+    let brightness = noise::excitation::raise(k.accent, k.brightness);
     let ratio = utils::units::semitones_to_ratio((brightness * (2.0 - brightness) - 0.5) * 72.0);
     utils::floats::min(4.0 * k.f0 * ratio, 0.499)
 }
@@ -58,28 +42,6 @@ fn resonance(sustain: bool) -> f32
         return 1.0;
     }
     0.5
-}
-
-fn dust_frequency(brightness: f32) -> f32
-    ensures { λ r. ⌜ r ≡ dustFrequency brightness ⌝ }
-{
-    let density = brightness * brightness;
-    0.00005 + 0.99995 * density * density
-}
-
-fn fill_dust(f: f32, accent: f32, temp: &mut [f32], word: u32) -> u32
-    ensures { λ r. ⌜ run (dusted f accent (now (temp .entry))) word ≡ record { value = now (temp .exit); word = r } ⌝ }
-{
-    let n = temp.len();
-    let mut w = word;
-    let mut i = 0;
-    while i < n {
-        let d = noise::dust::dust(f, w);
-        temp[i] = d.value * (8.0 - f * 6.0) * accent;
-        w = d.word;
-        i += 1;
-    }
-    w
 }
 
 // Noise in the first m frames, silence behind.
@@ -103,21 +65,11 @@ fn fill_excitation(k: Knobs, left: usize, temp: &mut [f32], word: u32) -> u32
     ensures { λ r. ⌜ run (excitation (k .sustain) k left (now (temp .entry))) word ≡ record { value = now (temp .exit); word = r } ⌝ }
 {
     if k.sustain {
-        return fill_dust(dust_frequency(k.brightness), k.accent, temp, word);
+        let f = noise::excitation::dust_frequency(k.brightness);
+        return noise::excitation::fill_dust(f, 8.0 - f * 6.0, k.accent, temp, word);
     }
     let m = utils::min_usize(left, temp.len());
     fill_noise(m, temp, word)
-}
-
-fn add_into(in_: &[f32], out: &mut [f32])
-    ensures { λ _. ⌜ now (out .exit) ≡ added (now (in_ .entry)) (now (out .entry)) ⌝ }
-{
-    let n = utils::min_usize(in_.len(), out.len());
-    let mut i = 0;
-    while i < n {
-        out[i] += in_[i];
-        i += 1;
-    }
 }
 
 // What is left of the noise after a block of n.
@@ -221,7 +173,7 @@ impl StringVoice {
         let drawn = fill_excitation(k, before, temp, word);
         let filter = struck.excitation_filter;
         let excitation_filter = filter.process_buffer(temp, temp_2);
-        add_into(temp_2, aux);
+        noise::excitation::add_into(temp_2, aux);
         let string = struck.string;
         let voice = StringVoice {
             excitation_filter,
@@ -247,8 +199,8 @@ impl StringVoice {
         } ⌝ }
     {
         let shape = crate::string::non_linearity(amount_for(k.structure));
-        let brightness = raise(k.accent, k.brightness);
-        let damping = raise(k.accent, k.damping);
+        let brightness = noise::excitation::raise(k.accent, k.brightness);
+        let damping = noise::excitation::raise(k.accent, k.damping);
         let before = self.string;
         let live = crate::string::Live {
             string: before,

@@ -12,7 +12,7 @@ use lib.Ieee.{Float}
 use Rattle.utils.specs.F32.{c0}
 use Rattle.utils.specs.Draw.{run, Ran}
 use Rattle.utils.proofs.Draw.{run-then, draws-always, always-run}
-use Rattle.string_voice.specs.declared.string_voice.Knobs.{Knobs}
+use Rattle.noise.specs.declared.excitation.Knobs.{Knobs}
 use Rattle.string_voice.specs.declared.string_voice.StringVoice.{StringVoice}
 use Rattle.string_voice.specs.String.{Good, stringInit}
 use Rattle.string_voice.specs.StringVoice.{voiceNew, voiceInit, After, renderOf}

@@ -6,7 +6,7 @@ use lib.Dec.{eqb, ltb}
 use lib.ListN.{length}
 use lib.Ieee.{Float}
 use Rattle.utils.specs.Draw.{Draw, ret, _>>=_}
-use Rattle.string_voice.specs.declared.string_voice.Knobs.{Knobs}
+use Rattle.noise.specs.declared.excitation.Knobs.{Knobs}
 use Rattle.string_voice.specs.StringVoice.{voiceNew, voiceInit, After, renderOf}
 
 -- n times, each on what the one before left

@@ -3,7 +3,7 @@ ghost use mathlib.Core.Path.{_≡_};
 ghost use Rattle.utils.specs.Draw.{run, Ran};
 ghost use Rattle.string_voice.specs.StringVoice.{After};
 ghost use Rattle.strings_abi.specs.Strings.{sizesFit, blocksOf};
-use string_voice::string_voice::Knobs;
+use noise::excitation::Knobs;
 use string_voice::string_voice::Rendered;
 use string_voice::string_voice::StringVoice;
 

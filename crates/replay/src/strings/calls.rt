@@ -8,7 +8,7 @@ use crate::draws;
 use crate::words;
 use crate::words::float_of;
 use crate::words::pattern_of;
-use string_voice::string_voice::Knobs;
+use noise::excitation::Knobs;
 use string_voice::string_voice::StringVoice;
 use utils::filter::Svf;
 

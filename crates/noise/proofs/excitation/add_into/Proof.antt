@@ -1,13 +1,13 @@
--- `string_voice::add_into` meets its contract, by the law of loops over frames.
+-- `excitation::add_into` meets its contract, by the law of loops over frames.
 use mathlib.Core.Path.{refl, ap}
 use Prim.Native.Nat.{_-_}
 use native.Mathlib.Omega.{arith}
 use lib.Ieee.{nan}
 use borrow.Author.Needs.{needs}
 use Rattle.utils.proofs.Frames.{Scan, frames-begin, scan-turn, scan-end}
-use Rattle.string_voice.specs.StringVoice.{addStep}
-use Rattle.string_voice.proofs.string_voice.add_into.Statement.{statement}
-use Rattle.string_voice.proofs.string_voice.add_into.Tie as tie
+use Rattle.noise.specs.Excitation.{addStep}
+use Rattle.noise.proofs.excitation.add_into.Statement.{statement}
+use Rattle.noise.proofs.excitation.add_into.Tie as tie
 
 abbrev Inv-loop : tie.InvT-loop
 Inv-loop in- out₀ n i₀ out i = Scan addStep tt in- out₀ i tt out

@@ -1,4 +1,4 @@
--- `string_voice::fill_dust` meets its contract, by the law of loops over frames: a word a frame.
+-- `excitation::fill_dust` meets its contract, by the law of loops over frames: a word a frame.
 use mathlib.Core.Path.{_≡_}
 use Prim.Native.Nat.{_-_}
 use native.Mathlib.Omega.{arith}
@@ -7,16 +7,16 @@ use borrow.Author.Needs.{needs}
 use Rattle.utils.specs.Draw.{ret}
 use Rattle.utils.proofs.Draw.{run-then}
 use Rattle.utils.proofs.Frames.{Frames, frames-begin, frames-turn, frames-then}
 use Rattle.noise.specs.Dust.{dustOf}
-use Rattle.string_voice.specs.StringVoice.{dustStep, dusted}
-use Rattle.string_voice.proofs.string_voice.fill_dust.Statement.{statement}
-use Rattle.string_voice.proofs.string_voice.fill_dust.Tie as tie
+use Rattle.noise.specs.Excitation.{dustStep, dusted}
+use Rattle.noise.proofs.excitation.fill_dust.Statement.{statement}
+use Rattle.noise.proofs.excitation.fill_dust.Tie as tie
 
 abbrev Inv-loop : tie.InvT-loop
-Inv-loop f accent temp₀ word n w₀ i₀ temp w i = Frames (dustStep f accent) tt temp₀ temp₀ word i tt temp w
+Inv-loop f gain accent temp₀ word n w₀ i₀ temp w i = Frames (dustStep f gain accent) tt temp₀ temp₀ word i tt temp w
 
 abbrev μ-loop : tie.MeasureT-loop
-μ-loop f accent temp₀ word n w₀ i₀ temp w i = n - i
+μ-loop f gain accent temp₀ word n w₀ i₀ temp w i = n - i
 
 loop-holds : tie.Need-loop-holds Inv-loop μ-loop
 loop-holds c = frames-begin
