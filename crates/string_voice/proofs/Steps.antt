@@ -24,13 +24,12 @@ use Rattle.string_voice.specs.declared.string.StringNonLinearity.the-var
 use Rattle.string_voice.specs.declared.string.Params.{Params}
 use Rattle.string_voice.specs.declared.string.String.{String}
 use Rattle.string_voice.specs.declared.string.Heard.{Heard}
-use Rattle.string_voice.specs.declared.string.Bent.{Bent}
 use Rattle.string_voice.specs.String.{bent, plain, allpassed, mainOf, stretched, heard, bridged, stepOf, atPhase, moved, frameOf, Good}
 
 module _ (shape : StringNonLinearity) (p : Params) (x : Float) (t : String) (word : ℕ) (lines : List Float) where
-  pub stepped : {b : Bent} {h : Heard} {lines' : List Float} {held : Float} {dc : DcBlocker} {o : SvfOut} {next : ℕ} {line' : List Float} {bridge : Float}
-      → run (bent shape p (t .delay ⊕ p .increment) (t .«dispersion_noise») (t .«curved_bridge»)) word ≡ record { value = (b .delay, b .«dispersion_noise»); word = b .word }
-      → _≡_ {A = Heard × List Float} (h, lines') (heard shape p t (b .delay) lines)
+  pub stepped : {delay noise : Float} {word' : ℕ} {h : Heard} {lines' : List Float} {held : Float} {dc : DcBlocker} {o : SvfOut} {next : ℕ} {line' : List Float} {bridge : Float}
+      → run (bent shape p (t .delay ⊕ p .increment) (t .«dispersion_noise») (t .«curved_bridge»)) word ≡ record { value = (delay, noise); word = word' }
+      → _≡_ {A = Heard × List Float} (h, lines') (heard shape p t delay lines)
       → held ≡ clampF x (neg c20) c20
       → dc ≡ dcOf (t .«dc_blocker») (h .s ⊕ held)
       → o ≡ svfOf (t .«iir_damping_filter») (dc .y)
@@ -44,7 +43,7 @@ module _ (shape : StringNonLinearity) (p : Params) (x : Float) (t : String) (wor
             «iir_damping_filter» = o .svf;
             «dc_blocker» = dc;
             delay = t .delay ⊕ p .increment;
-            «dispersion_noise» = b .«dispersion_noise»;
+            «dispersion_noise» = noise;
             «curved_bridge» = bridge;
             «src_phase» = t .«src_phase»;
             «out_sample_0» = o .out;
@@ -53,7 +52,7 @@ module _ (shape : StringNonLinearity) (p : Params) (x : Float) (t : String) (wor
           },
           line' ++ drop 1024 lines',
         );
-        word = b .word;
+        word = word';
       }
   unfolding stepOf part put
   stepped eb eh ex ed eo el ec =

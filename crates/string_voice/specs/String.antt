@@ -8,7 +8,7 @@ use lib.Ieee.{Float, binary32, lt, le, neg}
 use Rattle.resources.specs.Table.{entry}
 use Rattle.resources.specs.Svf.{svfShift}
 use Rattle.utils.specs.F32.{_⊕_, _⊖_, _⊗_, _⊘_, c0, c0·025, c0·06, c0·1, c0·15, c0·225, c0·308, c0·408, c0·499, c0·4999, c0·5, c0·618, c0·75, c0·94, c0·95, c0·9999, c0·01, c1, c1·5, c2, c2·1, c4, c12, c20, c24, c60, c84, c100, c128, c160, c255, c1020, c48000}
-use Rattle.utils.specs.Draw.{Draw, ret, ask, _>>=_}
+use Rattle.utils.specs.Draw.{Draw, ret, ask, next, _>>=_}
 use Rattle.utils.specs.Frames.{frames}
 use Rattle.utils.specs.Part.{part, within}
 use Rattle.utils.specs.Floats.{wholePart, fractionOf, minF, clampF, absF}
@@ -25,6 +25,7 @@ use Rattle.string_voice.specs.declared.string.String.{String}
 use Rattle.string_voice.specs.declared.string.Damping.{Damping}
 use Rattle.string_voice.specs.declared.string.Params.{Params}
 use Rattle.string_voice.specs.declared.string.Heard.{Heard}
+use Rattle.string_voice.specs.declared.string.Underway.{Underway}
 
 -- ---- String::new, init and reset: the state; the lines are 1,280 zeros after each
 
@@ -172,6 +173,13 @@ unfoldable pub bent : StringNonLinearity → Params → Float → Float → Floa
 bent (CurvedBridge a) p delay noise bridge = ret (delay ⊗ (c1 ⊖ bridge ⊗ p .«bridge_curving»), noise)
 bent (Dispersion a) p delay noise bridge =
     ask (λ w. let n = onePole noise (floatOf w ⊖ c0·5) (p .«noise_filter») in ret (delay ⊗ (c1 ⊕ n ⊗ p .«noise_amount»), n))
+
+-- the dispersion noise after the word that is drawn next, and a string that has it at hand
+unfoldable pub noiseAfter : Params → Float → ℕ → Float
+noiseAfter p noise w = onePole noise (floatOf (next w) ⊖ c0·5) (p .«noise_filter»)
+
+abbrev pub Ahead : Params → Underway → Type 0
+Ahead p v = v .«next_noise» ≡ noiseAfter p (v .string .«dispersion_noise») (v .word)
 
 -- the string line read by the cubic
 unfoldable pub plain : String → Float → List Float → Heard × List Float

@@ -4,7 +4,7 @@ ghost use Prim.Native.Nat.{_≤_, _^_};
 ghost use lib.ListN.{length};
 ghost use Rattle.utils.specs.Draw.{run, Ran};
 ghost use Rattle.utils.specs.Frames.{frames};
-ghost use Rattle.string_voice.specs.String.{stringNew, initOf, resetOf, nonLinearity, amountOf, delayOf, snap, dampingOf, compensationOf, noiseAmount, paramsOf, tuned, bent, plain, allpassed, mainOf, stretched, heard, bridged, stepOf, atPhase, moved, mixed, frameOf, strung, Good};
+ghost use Rattle.string_voice.specs.String.{stringNew, initOf, resetOf, nonLinearity, amountOf, delayOf, snap, dampingOf, compensationOf, noiseAmount, noiseAfter, Ahead, paramsOf, tuned, bent, plain, allpassed, mainOf, stretched, heard, bridged, stepOf, atPhase, moved, mixed, frameOf, strung, Good};
 use utils::filter::DcBlocker;
 use utils::filter::FrequencyApproximation;
 use utils::filter::Svf;
@@ -55,11 +55,19 @@ pub struct Live {
     pub word: u32,
 }
 
-// A delay that is bent, with the dispersion noise and the word after it.
+// A string within its loop, with the dispersion noise of its next step.
+pub struct Underway {
+    pub string: String,
+    pub word: u32,
+    pub next_noise: f32,
+}
+
+// A delay that is bent, with the dispersion noise and the word after it, and the noise of the next step.
 pub struct Bent {
     pub delay: f32,
     pub dispersion_noise: f32,
     pub word: u32,
+    pub next_noise: f32,
 }
 
 // What is read off the lines, and the stretch line's next place.
@@ -167,31 +175,42 @@ fn params_of(s: String, f0: f32, amount: f32, d: Damping, n: usize) -> Params
     }
 }
 
-// The delay and the dispersion noise of a step.
+// The dispersion noise after the word that is drawn next.
+fn noise_after(p: Params, noise: f32, word: u32) -> f32
+    ensures { λ r. ⌜ r ≡ noiseAfter p noise word ⌝ }
+{
+    let u = utils::random::get_float(utils::random::get_word(word)) - 0.5;
+    utils::one_pole(noise, u, p.noise_filter)
+}
+
+// The delay and the dispersion noise of a step. That noise was worked out a step ago, so that the line's reading need not wait for it.
 fn bend(
     shape: StringNonLinearity,
     p: Params,
     delay: f32,
     noise: f32,
+    next_noise: f32,
     bridge: f32,
     word: u32,
 ) -> Bent
-    ensures { λ r. ⌜ run (bent shape p delay noise bridge) word ≡ record { value = (r .delay, r .«dispersion_noise»); word = r .word } ⌝ }
+    requires { ⌜ «next_noise» ≡ noiseAfter p noise word ⌝ }
+    ensures { λ r. ⌜ (run (bent shape p delay noise bridge) word ≡ record { value = (r .delay, r .«dispersion_noise»); word = r .word })
+        × (r .«next_noise» ≡ noiseAfter p (r .«dispersion_noise») (r .word)) ⌝ }
 {
     match shape {
         StringNonLinearity::CurvedBridge(_) => Bent {
             delay: delay * (1.0 - bridge * p.bridge_curving),
             dispersion_noise: noise,
             word,
+            next_noise,
         },
         StringNonLinearity::Dispersion(_) => {
             let drawn = utils::random::get_word(word);
-            let u = utils::random::get_float(drawn) - 0.5;
-            let n = utils::one_pole(noise, u, p.noise_filter);
             Bent {
-                delay: delay * (1.0 + n * p.noise_amount),
-                dispersion_noise: n,
+                delay: delay * (1.0 + next_noise * p.noise_amount),
+                dispersion_noise: next_noise,
                 word: drawn,
+                next_noise: noise_after(p, next_noise, drawn),
             }
         }
     }
@@ -278,13 +297,27 @@ fn curve(shape: StringNonLinearity, s: f32, bridge: f32) -> f32
     }
 }
 
-fn step(lines: &mut [f32], v: Live, shape: StringNonLinearity, p: Params, in_sample: f32) -> Live
-    requires { ⌜ Good (v .string, now lines) ⌝ }
-    ensures { λ r. ⌜ run (stepOf shape p «in_sample» (v .string, now (lines .entry))) (v .word) ≡ record { value = (r .string, now (lines .exit)); word = r .word } ⌝ }
+fn step(
+    lines: &mut [f32],
+    v: Underway,
+    shape: StringNonLinearity,
+    p: Params,
+    in_sample: f32,
+) -> Underway
+    requires { ⌜ Good (v .string, now lines) × Ahead p v ⌝ }
+    ensures { λ r. ⌜ (run (stepOf shape p «in_sample» (v .string, now (lines .entry))) (v .word) ≡ record { value = (r .string, now (lines .exit)); word = r .word }) × Ahead p r ⌝ }
 {
     let t = v.string;
     let delay = t.delay + p.increment;
-    let b = bend(shape, p, delay, t.dispersion_noise, t.curved_bridge, v.word);
+    let b = bend(
+        shape,
+        p,
+        delay,
+        t.dispersion_noise,
+        v.next_noise,
+        t.curved_bridge,
+        v.word,
+    );
     let h = hear(lines, shape, p, t, b.delay);
     let blocker = t.dc_blocker;
     let filter = t.iir_damping_filter;
@@ -306,33 +339,42 @@ fn step(lines: &mut [f32], v: Live, shape: StringNonLinearity, p: Params, in_sam
         out_sample_1: t.out_sample_0,
         sample_rate_hz: t.sample_rate_hz,
     };
-    Live {
+    Underway {
         string,
         word: b.word,
+        next_noise: b.next_noise,
     }
 }
 
-fn advance(lines: &mut [f32], v: Live, shape: StringNonLinearity, p: Params, in_sample: f32) -> Live
-    requires { ⌜ Good (v .string, now lines) ⌝ }
-    ensures { λ r. ⌜ run (moved shape p «in_sample» (v .string, now (lines .entry))) (v .word) ≡ record { value = (r .string, now (lines .exit)); word = r .word } ⌝ }
+fn advance(
+    lines: &mut [f32],
+    v: Underway,
+    shape: StringNonLinearity,
+    p: Params,
+    in_sample: f32,
+) -> Underway
+    requires { ⌜ Good (v .string, now lines) × Ahead p v ⌝ }
+    ensures { λ r. ⌜ (run (moved shape p «in_sample» (v .string, now (lines .entry))) (v .word) ≡ record { value = (r .string, now (lines .exit)); word = r .word }) × Ahead p r ⌝ }
 {
     let s = v.string;
     let phase = s.src_phase + p.src_ratio;
     if phase > 1.0 {
         step(
             lines,
-            Live {
+            Underway {
                 string: s.at_phase(phase - 1.0),
                 word: v.word,
+                next_noise: v.next_noise,
             },
             shape,
             p,
             in_sample,
         )
     } else {
-        Live {
+        Underway {
             string: s.at_phase(phase),
             word: v.word,
+            next_noise: v.next_noise,
         }
     }
 }
@@ -466,14 +508,23 @@ fn run_frames(
         ≡ record { value = ((r .string, now (lines .exit)), now (out .exit)); word = r .word } ⌝ }
 {
     let n = utils::min_usize(in_.len(), out.len());
-    let mut u = v;
+    let s = v.string;
+    let mut u = Underway {
+        string: s,
+        word: v.word,
+        next_noise: noise_after(p, s.dispersion_noise, v.word),
+    };
     let mut i = 0;
     while i < n {
         u = advance(lines, u, shape, p, in_[i]);
         out[i] = mix(out[i], u.string);
         i += 1;
     }
-    u
+    let string = u.string;
+    Live {
+        string,
+        word: u.word,
+    }
 }
 
 pub fn process(

@@ -6,13 +6,13 @@ use lib.Ieee.{nan}
 use borrow.Author.Needs.{needs}
 use Rattle.utils.proofs.Draw.{run-then}
 use Rattle.utils.proofs.Frames.{Frames, frames-begin, frames-turn, frames-end, frames-good}
-use Rattle.string_voice.specs.String.{moved, frameOf, Good}
+use Rattle.string_voice.specs.String.{moved, frameOf, Ahead, Good}
 use Rattle.string_voice.proofs.Steps.{frame-good}
 use Rattle.string_voice.proofs.string.run_frames.Statement.{statement}
 use Rattle.string_voice.proofs.string.run_frames.Tie as tie
 
 abbrev Inv-loop : tie.InvT-loop
-Inv-loop lines₀ shape p in- out₀ n u₀ i₀ lines out u i = Frames (frameOf shape p) (u₀ .string, lines₀) in- out₀ (u₀ .word) i (u .string, lines) out (u .word)
+Inv-loop lines₀ shape p in- out₀ n u₀ i₀ lines out u i = Frames (frameOf shape p) (u₀ .string, lines₀) in- out₀ (u₀ .word) i (u .string, lines) out (u .word) × Ahead p u
 
 abbrev μ-loop : tie.MeasureT-loop
 μ-loop lines₀ shape p in- out₀ n u₀ i₀ lines out u i = n - i
@@ -20,8 +20,11 @@ abbrev μ-loop : tie.MeasureT-loop
 min-usize-requires : tie.Need-min-usize-requires Inv-loop μ-loop
 min-usize-requires c κs = search needs
 
+noise-after-requires : tie.Need-noise-after-requires Inv-loop μ-loop
+noise-after-requires c κs = search needs
+
 loop-holds : tie.Need-loop-holds Inv-loop μ-loop
-loop-holds c = frames-begin
+loop-holds c = (frames-begin, c .noise-after .ensures)
 
 mul-advance : tie.Need-mul-advance Inv-loop μ-loop
 mul-advance c = search needs
@@ -30,10 +33,13 @@ shared-slice-read-advance : tie.Need-shared-slice-read-advance Inv-loop μ-loop
 shared-slice-read-advance c = search needs
 
 advance-requires : tie.Need-advance-requires Inv-loop μ-loop
-advance-requires c κs = let s = c .before .before .before .before .before .before .before .before in frames-good Good (frame-good (s .args .shape) (s .args .p)) (s .pre) (c .before .before .before .loop .inv)
+advance-requires c κs =
+    let s = c .before .before .before .before .before .before .before .before .before .before in
+    let l = c .before .before .before .loop in
+    (frames-good Good (frame-good (s .args .shape) (s .args .p)) (s .pre) (l .inv .0), l .inv .1)
 
 mul-mix : tie.Need-mul-mix Inv-loop μ-loop
-mul-mix c = omega (arith, c .before .before .before .before .before .before .before .before .before .before .before)
+mul-mix c = omega (arith, c .before .before .before .before .before .before .before .before .before .before .before .before .before)
 
 slice-read-mix : tie.Need-slice-read-mix Inv-loop μ-loop
 slice-read-mix c = search needs
@@ -42,7 +48,7 @@ mix-requires : tie.Need-mix-requires Inv-loop μ-loop
 mix-requires c κs = search needs
 
 mul-out : tie.Need-mul-out Inv-loop μ-loop
-mul-out c = omega (arith, c .before .before .before .before .before .before .before .before .before .before .before .before .before)
+mul-out c = omega (arith, c .before .before .before .before .before .before .before .before .before .before .before .before .before .before .before)
 
 slice-write-out : tie.Need-slice-write-out Inv-loop μ-loop
 slice-write-out c = search needs
@@ -55,22 +61,24 @@ loop-less c = search needs
 
 loop-again : tie.Need-loop-again Inv-loop μ-loop
 loop-again c =
-    let a = c .before .before .before .before .before .before .before .before .before .before .before .before .before .args in
+    let a = c .before .before .before .before .before .before .before .before .before .before .before .before .before .before .before .args in
     let l = c .before .before .before .before .before .before .before .before .loop in
-    frames-turn nan nan (l .inv) (omega arith)
-    (rw (c .mix .ensures) (run-then (moved (a .shape) (a .p) _ (l .u .string, l .lines)) _ (l .u .word) (c .before .before .before .before .advance .ensures)))
+    let m = c .before .before .before .before .advance .ensures in (
+      frames-turn nan nan (l .inv .0) (omega arith) (rw (c .mix .ensures) (run-then (moved (a .shape) (a .p) _ (l .u .string, l .lines)) _ (l .u .word) (m .0))),
+      m .1,
+    )
 
 same-length : tie.Need-same-length Inv-loop μ-loop
 same-length c =
-    let s = c .before .before .before .before .before .before in
-    let g = frames-good Good (frame-good (s .args .shape) (s .args .p)) (s .pre) (c .before .loop .inv) in
+    let s = c .before .before .before .before .before .before .before .before .before in
+    let g = frames-good Good (frame-good (s .args .shape) (s .args .p)) (s .pre) (c .before .before .loop .inv .0) in
     omega (arith, s .pre .size, g .size)
 
 same-length-2 : tie.Need-same-length-2 Inv-loop μ-loop
 same-length-2 c = search needs
 
 returns : tie.Need-returns Inv-loop μ-loop
-returns c = frames-end (c .before .loop .inv) (omega arith)
+returns c = frames-end (c .before .before .loop .inv .0) (omega arith)
 
 pub run-frames-spec : {M : Type 1} → statement M
 run-frames-spec =
@@ -79,6 +87,7 @@ run-frames-spec =
     Inv-loop
     μ-loop
     min-usize-requires
+    noise-after-requires
     loop-holds
     mul-advance
     shared-slice-read-advance

@@ -28,10 +28,10 @@ part-write-start : tie.Need-part-write-start
 part-write-start c = search needs
 
 part-write-end : tie.Need-part-write-end
-part-write-end c = omega (arith, c .before .before .before .before .before .before .before .before .before .before .before .before .before .before .before .pre .size, c .before .before .before .before .before .before, c .before .before .before .before .before .before .before, c .before .before .before .before .before .before .before .before)
+part-write-end c = omega (arith, c .before .before .before .before .before .before .before .before .before .before .before .before .before .before .before .pre .0 .size, c .before .before .before .before .before .before, c .before .before .before .before .before .before .before, c .before .before .before .before .before .before .before .before)
 
 write-requires : tie.Need-write-requires
-write-requires c κs = omega (arith, c .before .before .before .before .before .before .before .before .before .before .before .before .before .before .before .before .pre .size, c .before .before .before .before .before .before .before .before .before .before .before .before .before .before .before .before .pre .string, c .before .before .before .before .before .before .before, c .before .before .before .before .before .before .before .before, c .before .before .before .before .before .before .before .before .before)
+write-requires c κs = omega (arith, c .before .before .before .before .before .before .before .before .before .before .before .before .before .before .before .before .pre .0 .size, c .before .before .before .before .before .before .before .before .before .before .before .before .before .before .before .before .pre .0 .string, c .before .before .before .before .before .before .before, c .before .before .before .before .before .before .before .before, c .before .before .before .before .before .before .before .before .before)
 
 curve-requires : tie.Need-curve-requires
 curve-requires c κs = search needs
@@ -41,9 +41,11 @@ same-length c = search needs
 
 returns : tie.Need-returns
 returns c =
-    let a = c .before .before .before .before .before .before .before .before .before .before .before .before .before .before .before .before .before .before .before .before .before .args in
-    stepped (a .shape) (a .p) (a .in-sample) (a .v .string) (a .v .word) (now (a .lines)) (c .before .before .before .before .before .before .before .before .before .before .before .before .before .before .before .before .bend .ensures) (c .before .before .before .before .before .before .before .before .before .before .before .before .before .before .hear .ensures) (c .before .before .before .before .before .before .before .before .before .clamp .ensures)
-    (c .before .before .before .before .before .before .before .process-sample .ensures) (c .before .before .before .before .before .before .process .ensures) (c .before .before .before .before .write .ensures) (c .curve .ensures)
+    let a = c .before .before .before .before .before .before .before .before .before .before .before .before .before .before .before .before .before .before .before .before .before .args in (
+      stepped (a .shape) (a .p) (a .in-sample) (a .v .string) (a .v .word) (now (a .lines)) (c .before .before .before .before .before .before .before .before .before .before .before .before .before .before .before .before .bend .ensures .0) (c .before .before .before .before .before .before .before .before .before .before .before .before .before .before .hear .ensures) (c .before .before .before .before .before .before .before .before .before .clamp .ensures)
+          (c .before .before .before .before .before .before .before .process-sample .ensures) (c .before .before .before .before .before .before .process .ensures) (c .before .before .before .before .write .ensures) (c .curve .ensures),
+      c .before .before .before .before .before .before .before .before .before .before .before .before .before .before .before .before .bend .ensures .1,
+    )
 
 pub step-spec : {M : Type 1} → statement M
 step-spec =
