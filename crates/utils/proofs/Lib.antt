@@ -6,6 +6,7 @@ pub mod Words
 pub mod Rounding
 pub mod Signs
 pub mod Wholes
+pub mod Pitches
 pub mod DelayLine
 pub mod Constants
 pub mod Increments

@@ -1,47 +1,66 @@
--- A word of 32 bits, rounded to 24 by a unit from its digits, times the unit, is the float nearest to the word: both have the same whole value, and a format writes a whole number in one way. Assumes nothing.
+-- Products and fractions that are floats as they are, and words: a word of 32 bits, rounded to 24 by a unit from its digits, times the unit, is the float nearest to the word: both have the same whole value, and a format writes a whole number in one way. Assumes nothing.
 use mathlib.Core.Path.{_≡_, refl, sym, ap, _∙_, subst}
 use mathlib.Core.Logic.{_⊎_, inl, inr}
 use mathlib.Core.Bool.{Bool, true, false, not, true≢false}
-use Prim.Native.Nat.{ℕ, zero, suc, _+_, _-_, _*_, _/_, _%_, _^_, _≤_, _<_, compare}
-use native.Mathlib.Nat.{le-refl, le-of-lt, le-of-eq, le-trans, lt-of-lt-of-le, lt-of-le-of-lt, lt-of-not-le, not-le-of-lt, eq-or-lt-of-le, zero-lt-suc, mul-one, one-mul, mul-assoc, mul-comm, mul-right-comm, mul-mul-mul-comm, mul-le-mul-right, eq-of-mul-eq-mul-right, mul-pos, div-one, mod-one, sub-eq-zero-of-le, pow-zero}
+use Prim.Native.Nat.{ℕ, _+_, _-_, _*_, _/_, _^_, _≤_, _<_, compare}
+use native.Mathlib.Nat.{le-of-lt, le-of-eq, le-trans, lt-of-lt-of-le, lt-of-le-of-lt, eq-or-lt-of-le, zero-lt-suc, mul-one, one-mul, mul-assoc, mul-comm, mul-right-comm, mul-mul-mul-comm, mul-le-mul-right, mul-lt-mul-of-pos-right, eq-of-mul-eq-mul-right, mul-pos, div-one, mod-one}
 use native.Mathlib.Omega.{arith}
 use lib.Dec.{T, leb, leb→le, nleb→lt, lit<, lit≤}
 use lib.IntN.{pos}
 use lib.Pow.{pow-pos, pow-add, pow-mono, pow-lt, shl-lt}
-use lib.Ieee.{Float, nan, inf, fin, Format, binary32, prec, emax, low, up, down, size, nearest, round, mul, ofInt}
+use lib.Ieee.{Float, nan, inf, fin, Format, binary32, up, down, size, nearest, round, mul, ofInt}
 use lib.Ieee.Digits.{size-lt, size-le, size-reaches}
-use lib.Ieee.Fits.{up-pos, down-pos, round-fits, mul-fits}
+use lib.Ieee.Fits.{down-pos, round-fits}
 use lib.Ieee.Exact.{HasValue, round-exact}
 use lib.Ieee.Nearest.{closest, closest-same}
-use lib.Ieee.Order.{drop, kept}
-use lib.Ieee.Scale.{round-same, grid, overflow, round-val}
+use lib.Ieee.Order.{drop}
+use lib.Ieee.Scale.{round-same, grid, round-val}
 use lib.Ieee.Back.{round-whole, whole-unique}
-use Rattle.utils.proofs.Words.{size-gt, unitOf, unit-le, rounded-le, cmp-lt}
+use Rattle.utils.proofs.Words.{size-gt, unitOf, unit-le, rounded-le}
 
--- ---- the product of two whole values, none negative
-pub mul-whole : (f : Format) (x y : Float) (a b : ℕ) → HasValue x false a 1 → HasValue y false b 1 → mul f x y ≡ round f false (a * b) 1
+-- ---- the product of two values, none negative
+pub mul-values : (f : Format) (x y : Float) (a c b d : ℕ) → 0 < c → 0 < d → HasValue x false a c → HasValue y false b d → mul f x y ≡ round f false (a * b) (c * d)
 unfolding mul
-mul-whole f nan y a b v w = absurd v
-mul-whole f (inf s) y a b v w = absurd v
-mul-whole f (fin true m e) y a b v w = absurd (true≢false (v .0))
-mul-whole f (fin false m e) nan a b v w = absurd w
-mul-whole f (fin false m e) (inf s) a b v w = absurd w
-mul-whole f (fin false m e) (fin true n d) a b v w = absurd (true≢false (w .0))
-mul-whole f (fin false m e) (fin false n d) a b v w =
-    let p : m * up e ≡ a * down e = sym (mul-one (m * up e)) ∙ v .1 in
-    let q : n * up d ≡ b * down d = sym (mul-one (n * up d)) ∙ w .1 in
-    round-same f false (m * up e * (n * up d)) (down e * down d) (a * b) 1 (mul-pos (down-pos e) (down-pos d)) (zero-lt-suc 0)
-    (mul-one (m * up e * (n * up d)) ∙ ap (λ (x : ℕ). x * (n * up d)) p ∙ ap (λ (x : ℕ). a * down e * x) q ∙ mul-mul-mul-comm a (down e) b (down d))
+mul-values f nan y a c b d C D v w = absurd v
+mul-values f (inf s) y a c b d C D v w = absurd v
+mul-values f (fin true m e) y a c b d C D v w = absurd (true≢false (v .0))
+mul-values f (fin false m e) nan a c b d C D v w = absurd w
+mul-values f (fin false m e) (inf s) a c b d C D v w = absurd w
+mul-values f (fin false m e) (fin true n g) a c b d C D v w = absurd (true≢false (w .0))
+mul-values f (fin false m e) (fin false n g) a c b d C D v w =
+    round-same f false (m * up e * (n * up g)) (down e * down g) (a * b) (c * d) (mul-pos (down-pos e) (down-pos g)) (mul-pos C D)
+    (mul-mul-mul-comm (m * up e) (n * up g) c d ∙ ap (λ (x : ℕ). x * (n * up g * d)) (v .1) ∙ ap (λ (x : ℕ). a * down e * x) (w .1) ∙ mul-mul-mul-comm a (down e) b (down g))
+
+-- ---- a / c where a has 24 digits at most before its zeros, and c is a power of two
+pub record Dyadic (a c : ℕ) : Type 0 where
+  pub front : ℕ
+  pub shift : ℕ
+  pub rest : ℕ
+  pub few : front < 2 ^ 24
+  pub is : a ≡ front * 2 ^ shift
+  pub power : 2 ^ rest * c ≡ 2 ^ 149
+
+pub exact : (a c : ℕ) → 0 < c → Dyadic a c → a < 2 ^ 64 * c → HasValue (round binary32 false a c) false a c
+exact a c C d h =
+    let q = d .front in
+    let i = d .shift in
+    let j = d .rest in
+    let s : q * 2 ^ (i + j) ≡ a * 2 ^ j = ap (λ (z : ℕ). q * z) (pow-add 2 i j) ∙ sym (mul-assoc q (2 ^ i) (2 ^ j)) ∙ ap (λ (z : ℕ). z * 2 ^ j) (sym (d .is)) in
+    let t : 2 ^ 64 * c * 2 ^ j ≡ 2 ^ 64 * 2 ^ 149 = mul-assoc (2 ^ 64) c (2 ^ j) ∙ ap (λ (z : ℕ). 2 ^ 64 * z) (mul-comm c (2 ^ j) ∙ d .power) in
+    round-exact binary32 false a c q (i + j) C (d .few)
+    (lt-of-le-of-lt (le-of-eq s) (lt-of-lt-of-le (mul-lt-mul-of-pos-right h (pow-pos j)) (le-trans (le-of-eq t) (lit≤ tt))))
+    (ap (λ (z : ℕ). a * z) (sym (d .power)) ∙ sym (mul-assoc a (2 ^ j) c) ∙ ap (λ (z : ℕ). z * c) (sym s))
+
+-- a whole number of that kind
+pub whole-dyadic : (q i : ℕ) → q < 2 ^ 24 → Dyadic (q * 2 ^ i) 1
+whole-dyadic q i h = record { front = q; shift = i; rest = 149; few = h; is = refl; power = refl }
 
 -- ---- n * 2 ^ k has no more digits than the format keeps
-room : (k : ℕ) → k ≤ 8 → 24 + (k + 149) < 277
+room : (k : ℕ) → k ≤ 8 → 24 + k ≤ 64
 room k h = omega arith
 
 small-product : (n k : ℕ) → n < 2 ^ 24 → k ≤ 8 → HasValue (round binary32 false (n * 2 ^ k) 1) false (n * 2 ^ k) 1
-small-product n k h l =
-    round-exact binary32 false (n * 2 ^ k) 1 n (k + 149) (zero-lt-suc 0) h
-    (lt-of-lt-of-le (shl-lt 24 (k + 149) h) (pow-mono (le-of-lt (room k l))))
-    (mul-assoc n (2 ^ k) (2 ^ 149) ∙ ap (λ (x : ℕ). n * x) (sym (pow-add 2 k 149)) ∙ sym (mul-one (n * 2 ^ (k + 149))))
+small-product n k h l = exact (n * 2 ^ k) 1 (zero-lt-suc 0) (whole-dyadic n k h) (lt-of-lt-of-le (shl-lt 24 k h) (pow-mono (room k l)))
 
 pub product : (n k : ℕ) → n ≤ 2 ^ 24 → k ≤ 8 → HasValue (round binary32 false (n * 2 ^ k) 1) false (n * 2 ^ k) 1
 product n k h l = go (eq-or-lt-of-le h)
@@ -129,9 +148,9 @@ word-value w b = go (leb 24 (size w)) (leb→le 24 (size w)) (nleb→lt 24 (size
     go false h l = small-word w (l tt)
 
 -- ---- both
-exact : (w : ℕ) → w < 2 ^ 32 → HasValue (round binary32 false (closest w (unitOf w) * unitOf w) 1) false (closest w (unitOf w) * unitOf w) 1
+exact-word : (w : ℕ) → w < 2 ^ 32 → HasValue (round binary32 false (closest w (unitOf w) * unitOf w) 1) false (closest w (unitOf w) * unitOf w) 1
 unfolding unitOf
-exact w b =
+exact-word w b =
     let z : size w ≤ 32 = size-le w 32 b in
     product (closest w (2 ^ (size w - 24))) (size w - 24) (rounded-le w) (omega arith)
 
@@ -141,5 +160,5 @@ word-float w b =
     let u = unitOf w in
     let n = closest w u in
     let p : mul binary32 (round binary32 false n 1) (round binary32 false u 1) ≡ round binary32 false (n * u) 1 =
-    mul-whole binary32 (round binary32 false n 1) (round binary32 false u 1) n u (round-whole binary32 false n (rounded-le w)) (round-whole binary32 false u (le-trans (unit-le w b) (lit≤ tt))) in
-    p ∙ whole-unique binary32 (round binary32 false (n * u) 1) (round binary32 false w 1) false (n * u) (round-fits binary32 false (n * u) 1) (round-fits binary32 false w 1) (exact w b) (word-value w b)
+    mul-values binary32 (round binary32 false n 1) (round binary32 false u 1) n 1 u 1 (zero-lt-suc 0) (zero-lt-suc 0) (round-whole binary32 false n (rounded-le w)) (round-whole binary32 false u (le-trans (unit-le w b) (lit≤ tt))) in
+    p ∙ whole-unique binary32 (round binary32 false (n * u) 1) (round binary32 false w 1) false (n * u) (round-fits binary32 false (n * u) 1) (round-fits binary32 false w 1) (exact-word w b) (word-value w b)

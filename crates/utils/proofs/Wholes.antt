@@ -1,26 +1,27 @@
 -- Whole parts of an f32: from 1 on and below 2^23 by its bits, and from 2^23 on and below 2^64 the float is its own whole part. Assumes nothing.
-use mathlib.Core.Path.{_≡_, refl, sym, ap, _∙_, subst}
+use mathlib.Core.Path.{_≡_, refl, sym, ap, _∙_}
 use mathlib.Core.Bool.{Bool, true, false, not, _&&_, _||_, cond, true≢false, false≢true}
-use Prim.Native.Nat.{ℕ, zero, suc, _+_, _-_, _*_, _/_, _%_, _^_, _≤_, _<_, zero-le, min}
-use native.Mathlib.Nat.{le-refl, le-of-lt, le-of-eq, le-trans, lt-of-lt-of-le, lt-of-le-of-lt, zero-lt-suc, pow-suc, mod-lt, div-le-self, mul-one, one-mul, mul-assoc, mul-comm, mul-right-comm, mul-pos, mul-le-mul-right, mul-lt-mul-of-pos-right, div-one, div-lt-iff-lt-mul, le-div-iff-mul-le, div-div-eq-div-mul, mul-div-mul-right}
+use Prim.Native.Nat.{ℕ, zero, suc, _+_, _-_, _*_, _/_, _%_, _^_, _≤_, _<_, min}
+use native.Mathlib.Nat.{le-of-lt, le-of-eq, le-trans, lt-of-lt-of-le, lt-of-le-of-lt, zero-lt-suc, pow-suc, mod-lt, div-le-self, one-mul, mul-comm, mul-right-comm, mul-pos, mul-le-mul-right, mul-lt-mul-of-pos-right, lt-of-mul-lt-mul-right, div-one, div-lt-iff-lt-mul, le-div-iff-mul-le, div-div-eq-div-mul, mul-div-mul-right}
 use native.Mathlib.Omega.{arith}
-use lib.Dec.{T, eqb, ltb, leb, ltb→lt, lt→ltb, lit<}
+use lib.Dec.{T, eqb, ltb, leb, ltb→lt, lt→ltb}
 use lib.IntN.{ℤ, pos, negsuc}
-use lib.Pow.{pow-pos, pow-add, pow-mono, shr-shr}
-use borrow.Author.Tests.{eqb-true, eq-eqb, ltb-true, ltb-false, lt-ltb, le-ltb}
-use lib.Ieee.{Float, nan, inf, fin, binary32, up, down, size, sub, lt, le, isNan, fits, round, ofInt, ofBits, toBits, toUnsigned}
+use lib.Pow.{pow-pos, pow-add, shr-shr}
+use borrow.Author.Tests.{eqb-true, eq-eqb, ltb-true, ltb-false, lt-ltb}
+use lib.Ieee.{Float, nan, inf, fin, binary32, up, down, size, lt, le, isNan, fits, ofInt, ofBits, toBits, toUnsigned}
 use lib.Ieee.Digits.{size-le, size-reaches}
 use lib.Ieee.Fits.{down-pos, and-l, and-r, ofInt-fits, kept-lt}
 use lib.Ieee.Nearest.{div-same}
 use lib.Ieee.Order.{le-of-values}
 use lib.Ieee.Positive.{above-of-le}
 use denote.Floats.{passes, is-true}
-use lib.Ieee.Exact.{HasValue, round-exact}
+use lib.Ieee.Exact.{HasValue}
 use lib.Ieee.Back.{whole-unique}
 use Rattle.utils.specs.F32.{_⊖_, c0, c1, twoTo23, twoTo64}
 use Rattle.utils.specs.Floats.{wholePart, fractionOf, splitOf}
 use Rattle.utils.specs.declared.floats.Parts.{Parts}
 use Rattle.utils.proofs.Words.{size-gt}
+use Rattle.utils.proofs.Rounding.{exact, whole-dyadic}
 
 -- ---- `2^k <= x` and `x < 2^k`, of an x that is not negative, as orders of numbers
 le-true : (a b : ℕ) → (ltb a b || (eqb a b && true)) ≡ true → a ≤ b
@@ -45,7 +46,7 @@ le-false a b h = go (ltb a b) (eqb a b) (ltb-false a b) (eq-eqb a b) h
 tidy : (k m : ℕ) (e : ℤ) → 1 * 2 ^ k * down e ≡ 2 ^ k * down e
 tidy k m e = ap (λ (x : ℕ). x * down e) (one-mul (2 ^ k))
 
-reached : (k m : ℕ) (e : ℤ) → le (fin false 1 (pos k)) (fin false m e) ≡ true → 2 ^ k * down e ≤ m * up e
+pub reached : (k m : ℕ) (e : ℤ) → le (fin false 1 (pos k)) (fin false m e) ≡ true → 2 ^ k * down e ≤ m * up e
 unfolding le
 reached k m e h =
     let l : 1 * 2 ^ k * down e ≤ m * up e * 1 = le-true (1 * 2 ^ k * down e) (m * up e * 1) h in
@@ -57,7 +58,7 @@ missed k m e h =
     let l : m * up e * 1 < 1 * 2 ^ k * down e = le-false (1 * 2 ^ k * down e) (m * up e * 1) h in
     omega (arith, l, tidy k m e)
 
-under : (k m : ℕ) (e : ℤ) → lt (fin false m e) (fin false 1 (pos k)) ≡ true → m * up e < 2 ^ k * down e
+pub under : (k m : ℕ) (e : ℤ) → lt (fin false m e) (fin false 1 (pos k)) ≡ true → m * up e < 2 ^ k * down e
 unfolding lt
 under k m e h =
     let l : m * up e * 1 < 1 * 2 ^ k * down e = ltb-true (m * up e * 1) (1 * 2 ^ k * down e) h in
@@ -68,6 +69,40 @@ unfolding lt
 over k m e h =
     let l : 1 * 2 ^ k * down e ≤ m * up e * 1 = ltb-false (m * up e * 1) (1 * 2 ^ k * down e) h in
     omega (arith, l, tidy k m e)
+
+-- ---- what a value says of its float
+below-value : (m : ℕ) (e : ℤ) (a c k : ℕ) → 0 < c → m * up e * c ≡ a * down e → a < k * c → m * up e < k * down e
+below-value m e a c k C v h =
+    lt-of-mul-lt-mul-right c
+    (lt-of-le-of-lt (le-of-eq v) (lt-of-lt-of-le (mul-lt-mul-of-pos-right h (down-pos e)) (le-of-eq (mul-right-comm k c (down e)))))
+
+pub lt-power : (k : ℕ) (x : Float) (a c : ℕ) → 0 < c → HasValue x false a c → a < 2 ^ k * c → lt x (fin false 1 (pos k)) ≡ true
+unfolding lt
+lt-power k nan a c C v h = absurd v
+lt-power k (inf s) a c C v h = absurd v
+lt-power k (fin true m e) a c C v h = absurd (true≢false (v .0))
+lt-power k (fin false m e) a c C v h =
+    let l : m * up e < 2 ^ k * down e = below-value m e a c (2 ^ k) C (v .1) h in
+    lt-ltb (m * up e * 1) (1 * 2 ^ k * down e) (omega (arith, l, tidy k m e))
+
+uncapped : (n : ℕ) → n < 2 ^ 64 → min n (2 ^ 64 - 1) ≡ n
+uncapped n h = omega arith
+
+-- below 2^64 the whole part is the quotient of any fraction that the float equals
+pub cut-whole : (m : ℕ) (e : ℤ) → m * up e < 2 ^ 64 * down e → wholePart (fin false m e) ≡ m * up e / down e
+unfolding wholePart toUnsigned ofBits
+cut-whole m e h = go (le c1 (fin false m e)) (missed 0 m e) (lt (fin false m e) twoTo64) (lt-power 64 (fin false m e) (m * up e) (down e) (down-pos e) (refl, refl) h)
+  where
+    go : (t : Bool) → (t ≡ false → m * up e < 2 ^ 0 * down e) → (u : Bool) → u ≡ true → cond (t && u) (min (m * up e / down e) (2 ^ 64 - 1)) 0 ≡ m * up e / down e
+    go true f true r = uncapped (m * up e / down e) (div-lt-iff-lt-mul (down-pos e) .1 h)
+    go true f false r = absurd (false≢true r)
+    go false f u r = let q : m * up e / down e < 1 = div-lt-iff-lt-mul (down-pos e) .1 (omega (arith, f refl)) in omega arith
+
+pub whole-value : (x : Float) (a c : ℕ) → 0 < c → HasValue x false a c → a < 2 ^ 64 * c → wholePart x ≡ a / c
+whole-value nan a c C v h = absurd v
+whole-value (inf s) a c C v h = absurd v
+whole-value (fin true m e) a c C v h = absurd (true≢false (v .0))
+whole-value (fin false m e) a c C v h = cut-whole m e (below-value m e a c (2 ^ 64) C (v .1) h) ∙ div-same (m * up e) (down e) a c (down-pos e) C (v .1)
 
 -- ---- the bits of an x from 1 on and below 2^23
 
@@ -136,17 +171,14 @@ module _ (m : ℕ) (e : ℤ) (lo : down e ≤ m * up e) (hi : m * up e < 2 ^ 23 
             ∙ ap (λ (x : ℕ). q / 2 ^ x) j
             ∙ shifted n k (omega arith)
             ∙ whole-is
-            ∙ uncapped (a / down e) w;
+            ∙ sym (uncapped (a / down e) (omega arith));
       }
     where
       fit : (b j : ℕ) → (b % 8388608 + 8388608) / 2 ^ j ≤ 2 ^ 24
       fit b j = omega (arith, div-le-self (b % 8388608 + 8388608) (2 ^ j), mod-lt b (zero-lt-suc 8388607))
 
-      uncapped : (w : ℕ) → w < 2 ^ 23 → w ≡ min w (2 ^ 64 - 1)
-      uncapped w h = omega arith
-
 -- what is at least 2^k is not negative, and above -1
-no-minus : (k m : ℕ) (e : ℤ) → le (fin false 1 (pos k)) (fin true m e) ≡ true → ⊥
+pub no-minus : (k m : ℕ) (e : ℤ) → le (fin false 1 (pos k)) (fin true m e) ≡ true → ⊥
 no-minus k m e h = above-of-le (fin false 1 (pos k)) (fin true m e) tt (passes (le (fin false 1 (pos k)) (fin true m e)) h)
 
 pub above-minus-one : (x : Float) → le c1 x ≡ true → T (lt (fin true 1 (pos 0)) x)
@@ -176,7 +208,7 @@ unfolding lt
 minus-below k m e = lt-ltb 0 (m * up e * 1 + 1 * 2 ^ k * down e) (omega (arith, mul-pos (pow-pos k) (down-pos e), tidy k m e))
 
 -- below 2^64 is not at or above it
-not-past : (x : Float) → lt x twoTo64 ≡ true → le twoTo64 x ≡ false
+pub not-past : (x : Float) → lt x twoTo64 ≡ true → le twoTo64 x ≡ false
 unfolding ofBits
 not-past nan h = absurd (false≢true (unfold lt in h))
 not-past (inf true) h = unfold le in refl
@@ -201,7 +233,7 @@ no-half : (m p : ℕ) → 0 < p → m < 2 ^ 24 → 2 ^ 23 * (p * 2) ≤ m * 1 �
 no-half m p q h l = omega arith
 
 -- of a value that fits: m has 24 digits at most
-digits : (s : Bool) (m : ℕ) (e : ℤ) → T (fits binary32 (fin s (suc m) e)) → suc m < 2 ^ 24
+pub digits : (s : Bool) (m : ℕ) (e : ℤ) → T (fits binary32 (fin s (suc m) e)) → suc m < 2 ^ 24
 unfolding fits
 digits s m e t =
     let a : Bool = eqb (suc m % 2) 1 in
@@ -210,38 +242,16 @@ digits s m e t =
     let d : Bool = ltb (suc m * up e) (2 ^ 128 * down e) in
     ltb→lt (suc m) (2 ^ 24) (and-r a b (and-l (a && b) c (and-l (a && b && c) d t)))
 
-exact : (m a : ℕ) → m < 2 ^ 24 → m * 2 ^ a < 2 ^ 64 * 1 → HasValue (round binary32 false (m * 2 ^ a) 1) false (m * 2 ^ a) 1
-exact m a d h =
-    let j : m * 2 ^ (a + 149) ≡ m * 2 ^ a * 2 ^ 149 = ap (λ (x : ℕ). m * x) (pow-add 2 a 149) ∙ sym (mul-assoc m (2 ^ a) (2 ^ 149)) in
-    round-exact binary32 false (m * 2 ^ a) 1 m (a + 149) (zero-lt-suc 0) d
-    (lt-of-le-of-lt (le-of-eq j) (lt-of-le-of-lt (mul-le-mul-right (2 ^ 149) (le-of-lt h)) (lit< tt)))
-    (sym j ∙ sym (mul-one (m * 2 ^ (a + 149))))
-
-in-range : (m : ℕ) (e : ℤ) → 2 ^ 23 * down e ≤ m * up e → m * up e < 2 ^ 64 * down e → (le c1 (fin false m e) && lt (fin false m e) twoTo64) ≡ true
-unfolding lt ofBits
-in-range m e a b =
-    let l : 1 * down e ≤ m * up e * 1 = omega arith in
-    let g : m * up e * 1 < 1 * 2 ^ 64 * down e = omega arith in
-    ap (λ (t : Bool). t && lt (fin false m e) twoTo64) (is-true (le c1 (fin false m e)) (le-of-values c1 (fin false m e) 1 1 (m * up e) (down e) (zero-lt-suc 0) (down-pos e) (refl, refl) (refl, refl) l))
-    ∙ lt-ltb (m * up e * 1) (1 * 2 ^ 64 * down e) g
-
-uncapped : (n : ℕ) → n < 2 ^ 64 * 1 → min n (2 ^ 64 - 1) ≡ n
-uncapped n h = omega arith
-
 -- the float of its whole part is x itself
 own-whole : (m : ℕ) (e : ℤ) → T (fits binary32 (fin false m e)) → 2 ^ 23 * down e ≤ m * up e → m * up e < 2 ^ 64 * down e
     → ofInt binary32 (pos (wholePart (fin false m e))) ≡ fin false m e
-unfolding wholePart ofBits toUnsigned
 own-whole zero e t h k = absurd (no-zero (up e) (down e) (down-pos e) h)
 own-whole (suc m) (negsuc a) t h k = absurd (no-half (suc m) (2 ^ a) (pow-pos a) (digits false m (negsuc a) t) (omega (arith, h, pow-suc 2 a)))
 own-whole (suc m) (pos a) t h k =
-    let w : wholePart (fin false (suc m) (pos a)) ≡ suc m * 2 ^ a =
-    ap (λ (p : Bool). cond p (min (suc m * 2 ^ a / 1) (2 ^ 64 - 1)) 0) (in-range (suc m) (pos a) h k)
-    ∙ ap (λ (n : ℕ). min n (2 ^ 64 - 1)) (div-one (suc m * 2 ^ a))
-    ∙ uncapped (suc m * 2 ^ a) k in
+    let w : wholePart (fin false (suc m) (pos a)) ≡ suc m * 2 ^ a = cut-whole (suc m) (pos a) k ∙ div-one (suc m * 2 ^ a) in
     ap (λ (n : ℕ). ofInt binary32 (pos n)) w
     ∙ whole-unique binary32 (ofInt binary32 (pos (suc m * 2 ^ a))) (fin false (suc m) (pos a)) false (suc m * 2 ^ a)
-    (ofInt-fits binary32 (pos (suc m * 2 ^ a))) t (unfold ofInt in exact (suc m) a (digits false m (pos a) t) k) (refl, refl)
+    (ofInt-fits binary32 (pos (suc m * 2 ^ a))) t (unfold ofInt in exact (suc m * 2 ^ a) 1 (zero-lt-suc 0) (whole-dyadic (suc m) a (digits false m (pos a) t)) k) (refl, refl)
 
 -- ---- the four cases of `split`
 

@@ -158,6 +158,9 @@ c1020 = ofBits binary32 0x447f0000
 abbrev pub c48000 : Float
 c48000 = ofBits binary32 0x473b8000
 
+abbrev pub twoTo15 : Float
+twoTo15 = ofBits binary32 0x47000000
+
 abbrev pub twoTo23 : Float
 twoTo23 = ofBits binary32 0x4b000000
 

@@ -13,7 +13,7 @@ pub struct Parts {
 }
 
 // The whole part from the f32's own bits: its 24 digits, shifted by its exponent.
-fn cut(x: f32) -> u32
+pub fn cut(x: f32) -> u32
     requires { ⌜ (le c1 x ≡ true) × (lt x twoTo23 ≡ true) ⌝ }
     ensures { λ r. ⌜ (r ≡ toUnsigned 64 x) × (r ≤ 2 ^ 24) ⌝ }
 {
