@@ -10,7 +10,7 @@ pub mod functions;
 mod raw;
 #[cfg(not(no_plaits))]
 mod runs;
-pub mod strings;
+pub mod voices;
 
 use std::path::{Path, PathBuf};
 

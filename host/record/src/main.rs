@@ -12,7 +12,7 @@ fn main() -> ExitCode {
 
 #[cfg(not(no_plaits))]
 fn main() -> ExitCode {
-    match write_both() {
+    match write_all() {
         Ok(()) => ExitCode::SUCCESS,
         Err(error) => {
             eprintln!("record: {error}");
@@ -21,19 +21,24 @@ fn main() -> ExitCode {
     }
 }
 
-/// Makes both records before it writes either.
+/// Makes all records before it writes any.
 #[cfg(not(no_plaits))]
-fn write_both() -> Result<(), String> {
+fn write_all() -> Result<(), String> {
+    use oracle::physical_modelling::{modal_voice::ModalVoice, string_voice::StringVoice};
+    use record::voices::{format, modals, record, strings};
     let leaves = record::leaves();
-    let strings = record::strings::record(&record::strings::chosen())?;
+    let strings = record::<StringVoice>(&strings::sequences())?;
+    let modals = record::<ModalVoice>(&modals::sequences())?;
     let bytes = record::format::to_bytes(&leaves);
     write(&record::leaves_path(), &bytes)?;
     summary(&leaves);
     println!("{} records, {} bytes", leaves.len(), bytes.len());
-    let bytes = record::strings::format::to_bytes(&strings.calls);
-    write(&record::strings::path(), &bytes)?;
-    println!("{}", strings.summary());
-    println!("{} calls, {} bytes", strings.calls.len(), bytes.len());
+    for (kind, recorded) in [(format::STRINGS, strings), (format::MODALS, modals)] {
+        let bytes = format::to_bytes(kind, &recorded.calls);
+        write(&kind.path(), &bytes)?;
+        println!("{}: {}", kind.name, recorded.summary());
+        println!("{} calls, {} bytes", recorded.calls.len(), bytes.len());
+    }
     Ok(())
 }
 

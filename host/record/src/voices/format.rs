@@ -1,6 +1,7 @@
-//! The file of sequences: a header line of 128 bytes, then calls of 64 little-endian words.
+//! A file of sequences of one voice: a header line of 128 bytes, then calls of 64 little-endian words.
 
 use crate::format::{HEADER_BYTES, header};
+use std::path::{Path, PathBuf};
 
 pub const CALL_WORDS: usize = 64;
 pub const CALL_BYTES: usize = 4 * CALL_WORDS;
@@ -129,27 +130,53 @@ impl Call {
     }
 }
 
-fn strings_header(calls: usize) -> String {
-    header("strings", "calls", calls)
+/// What a voice's files have of their own.
+#[derive(Debug, Clone, Copy)]
+pub struct Kind {
+    /// The word of the header, and the file's name.
+    pub name: &'static str,
+    /// Whether the voice has a reset.
+    pub resets: bool,
+}
+
+pub const STRINGS: Kind = Kind { name: "strings", resets: true };
+
+pub const MODALS: Kind = Kind { name: "modals", resets: false };
+
+impl Kind {
+    fn header(&self, calls: usize) -> String {
+        header(self.name, "calls", calls)
+    }
+
+    /// Whether a voice of the kind has the call.
+    pub fn has(&self, given: &Given) -> bool {
+        self.resets || !matches!(given, Given::Reset)
+    }
+
+    /// Where the file stands in the repository.
+    pub fn path(&self) -> PathBuf {
+        let data = Path::new(env!("CARGO_MANIFEST_DIR")).join("../../crates/replay/data");
+        data.join(format!("{}.bin", self.name))
+    }
 }
 
 /// The bytes of a file of these calls.
-pub fn to_bytes(calls: &[Call]) -> Vec<u8> {
-    let mut bytes = strings_header(calls.len()).into_bytes();
+pub fn to_bytes(kind: Kind, calls: &[Call]) -> Vec<u8> {
+    let mut bytes = kind.header(calls.len()).into_bytes();
     let words = calls.iter().flat_map(Call::words);
     bytes.extend(words.flat_map(u32::to_le_bytes));
     bytes
 }
 
 /// The calls of a file, or what is wrong with it.
-pub fn from_bytes(bytes: &[u8]) -> Result<Vec<Call>, String> {
+pub fn from_bytes(kind: Kind, bytes: &[u8]) -> Result<Vec<Call>, String> {
     let (head, body) =
         bytes.split_at_checked(HEADER_BYTES).ok_or("the file is shorter than its header")?;
     let (calls, rest) = body.as_chunks::<CALL_BYTES>();
     if !rest.is_empty() {
         return Err("the file ends within a call".into());
     }
-    if head != strings_header(calls.len()).as_bytes() {
+    if head != kind.header(calls.len()).as_bytes() {
         return Err("the header is not that of so many calls".into());
     }
     let words = |call: &[u8; CALL_BYTES]| {
@@ -158,6 +185,9 @@ pub fn from_bytes(bytes: &[u8]) -> Result<Vec<Call>, String> {
     };
     let calls: Vec<Call> =
         calls.iter().map(|call| Call::from_words(words(call))).collect::<Result<_, _>>()?;
+    if !calls.iter().all(|call| kind.has(&call.given)) {
+        return Err(format!("{} have no reset", kind.name));
+    }
     match calls.first() {
         Some(Call { given: Given::Open { .. }, .. }) | None => Ok(calls),
         _ => Err("the first call opens no voice".into()),

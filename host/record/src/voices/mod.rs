@@ -1,26 +1,22 @@
-//! Sequences of calls of the string voice as a file; docs/RECORD.md is its description.
+//! Sequences of calls of each voice as a file; docs/RECORD.md is its description.
 
 #[cfg(not(no_plaits))]
 mod choice;
 pub mod format;
 #[cfg(not(no_plaits))]
-pub mod voice;
-
-use std::path::{Path, PathBuf};
-
-/// Where the file stands in the repository.
-pub fn path() -> PathBuf {
-    Path::new(env!("CARGO_MANIFEST_DIR")).join("../../crates/replay/data/strings.bin")
-}
+pub mod modals;
+#[cfg(not(no_plaits))]
+pub mod player;
+#[cfg(not(no_plaits))]
+pub mod strings;
 
 #[cfg(not(no_plaits))]
-pub use beside_the_rust::{Recorded, chosen, differences, record};
+pub use beside_the_rust::{Recorded, differences, record};
 
 #[cfg(not(no_plaits))]
 mod beside_the_rust {
-    use super::choice;
     use super::format::{Call, Given, from_bytes};
-    use super::voice::{Halt, Player};
+    use super::player::{Halt, Player, Voice};
 
     /// The calls of all sequences, and how many sequences ended before a delay of 2^64 or more.
     #[derive(Default)]
@@ -57,21 +53,16 @@ mod beside_the_rust {
         }
     }
 
-    /// The floats that the voice keeps after the call, its lines left out.
+    /// The floats of the words that a call left, those of out left out.
     fn kept(call: &Call) -> impl Iterator<Item = f32> {
         call.words().into_iter().take(35).skip(15).map(f32::from_bits)
     }
 
-    /// The sequences chosen, each of which begins with an opening.
-    pub fn chosen() -> Vec<Vec<Given>> {
-        choice::sequences()
-    }
-
     /// Plays the sequences, or says in which call the Rust halted otherwise than by departure 1.
-    pub fn record(sequences: &[Vec<Given>]) -> Result<Recorded, String> {
+    pub fn record<V: Voice>(sequences: &[Vec<Given>]) -> Result<Recorded, String> {
         let mut recorded = Recorded::default();
         for (number, sequence) in sequences.iter().enumerate() {
-            let mut player = Player::default();
+            let mut player = Player::<V>::default();
             for (call, given) in sequence.iter().enumerate() {
                 let at = || format!("sequence {number}, call {call}");
                 if !given.accepted() {
@@ -91,9 +82,9 @@ mod beside_the_rust {
     }
 
     /// The number of calls of a file that leave something else now, or what is wrong with the file.
-    pub fn differences(bytes: &[u8]) -> Result<usize, String> {
-        let mut player = Player::default();
+    pub fn differences<V: Voice>(bytes: &[u8]) -> Result<usize, String> {
+        let mut player = Player::<V>::default();
         let mut stands = |call: &&Call| player.call(&call.given).as_ref() == Ok(&call.left);
-        Ok(from_bytes(bytes)?.iter().filter(|call| !stands(call)).count())
+        Ok(from_bytes(V::KIND, bytes)?.iter().filter(|call| !stands(call)).count())
     }
 }

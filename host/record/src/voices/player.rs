@@ -1,10 +1,9 @@
-//! The Rust's `StringVoice`, called and read.
+//! A voice of the Rust, called and read.
 
-use super::format::{GIVEN_WORDS, Given, Left, Render};
+use super::format::{GIVEN_WORDS, Given, Kind, Left, Render};
 use crate::draws::{buffer, canonical, digest_of_buffer, previous};
 use crate::functions::random::seeded;
 use oracle::debug::Tree;
-use oracle::physical_modelling::string_voice::StringVoice;
 use oracle::utils::random::get_word;
 use std::cell::{Cell, RefCell};
 use std::panic::{AssertUnwindSafe, catch_unwind, set_hook, take_hook};
@@ -20,24 +19,42 @@ pub enum Halt {
 }
 
 /// The buffers temp, temp_2, out and aux.
-type Buffers = [Vec<f32>; 4];
+pub type Buffers = [Vec<f32>; 4];
+
+/// A voice of the Rust.
+pub trait Voice: Clone {
+    const KIND: Kind;
+
+    fn opened(sample_rate: f32) -> Self;
+
+    /// Resets the voice, or says that it has no reset.
+    fn reset(&mut self) -> Result<(), Halt>;
+
+    fn render(&mut self, r: &Render, buffers: &mut Buffers);
+
+    /// What it keeps: the words 12 to 34 of a call, and the words 39 and 40.
+    fn kept(&self) -> (Vec<u32>, [u32; 2]);
+}
 
 /// The voice of a sequence, none before the opening.
-#[derive(Default)]
-pub struct Player(Option<StringVoice>);
+pub struct Player<V>(Option<V>);
 
-impl Player {
+impl<V> Default for Player<V> {
+    fn default() -> Self {
+        Player(None)
+    }
+}
+
+impl<V: Voice> Player<V> {
     /// What the call leaves, or how the Rust halted in it, which then changes nothing.
     pub fn call(&mut self, given: &Given) -> Result<Left, Halt> {
         let none = Buffers::default();
         if let Given::Open { sample_rate } = *given {
-            let voice = self.0.insert(StringVoice::new());
-            voice.init(sample_rate);
-            return Ok(left(voice, 0, &none));
+            return Ok(left(self.0.insert(V::opened(sample_rate)), 0, &none));
         }
         let voice = self.0.as_mut().ok_or(Halt::Other("no voice is open".into()))?;
         let Given::Render(render) = given else {
-            voice.reset();
+            voice.reset()?;
             return Ok(left(voice, 0, &none));
         };
         let mut after = voice.clone();
@@ -48,57 +65,33 @@ impl Player {
 }
 
 /// The generator's word and the buffers after a render.
-fn rendered(voice: &mut StringVoice, r: &Render) -> (u32, Buffers) {
+fn rendered(voice: &mut impl Voice, r: &Render) -> (u32, Buffers) {
     let mut buffers = [0, 1, 2, 3].map(|k| buffer(r.frames as usize, r.fill.wrapping_add(k)));
-    let [temp, temp_2, out, aux] = &mut buffers;
     let following = seeded(r.word, || {
-        voice.render(
-            r.sustain,
-            r.trigger,
-            r.accent,
-            r.f0,
-            r.structure,
-            r.brightness,
-            r.damping,
-            temp,
-            temp_2,
-            out,
-            aux,
-        );
+        voice.render(r, &mut buffers);
         get_word()
     });
     (previous(following), buffers)
 }
 
 /// The words that a call leaves.
-fn left(voice: &StringVoice, word: u32, buffers: &Buffers) -> Left {
-    let text = format!("{voice:?}");
-    let tree = Tree::read(&text);
-    let string = tree.field("string");
-    let lines = [string.field("string"), string.field("stretch")];
+fn left(voice: &impl Voice, word: u32, buffers: &Buffers) -> Left {
+    let (kept, digests) = voice.kept();
     let mut words = vec![word];
-    words.extend(lines.map(|line| line.field("write_ptr").index() as u32));
-    words.push(tree.field("remaining_noise_samples").index() as u32);
-    words.extend(numbers(tree.field("excitation_filter"), &SVF));
-    words.extend(numbers(string.field("iir_damping_filter"), &SVF));
-    words.extend(numbers(string.field("dc_blocker"), &["pole", "x", "y"]));
-    words.extend(numbers(string, &["delay", "dispersion_noise", "curved_bridge", "src_phase"]));
-    words.extend(string.field("out_sample").floats().into_iter().map(canonical));
-    words.extend(numbers(string, &["sample_rate_hz"]));
+    words.extend(kept);
+    assert!(words.len() <= DIGESTS - GIVEN_WORDS, "every word has its place");
+    words.resize(DIGESTS - GIVEN_WORDS, 0);
     words.extend(buffers.each_ref().map(|buffer| digest_of_buffer(buffer)));
-    words.extend(lines.map(|line| digest_of_buffer(&line.field("line").floats())));
-    assert_eq!(words.len(), FIRST_OUT - GIVEN_WORDS, "every word has its place");
+    words.extend(digests);
     words.extend(buffers[2].iter().take(16).copied().map(canonical));
     std::array::from_fn(|k| words.get(k).copied().unwrap_or(0))
 }
 
-/// The word of a call that holds the first sample of out.
-const FIRST_OUT: usize = 41;
-
-const SVF: [&str; 5] = ["g", "r", "h", "state_1", "state_2"];
+/// The word of a call that holds the first digest.
+const DIGESTS: usize = 35;
 
 /// The bits of the fields of these names, in their order.
-fn numbers(tree: &Tree, names: &[&str]) -> Vec<u32> {
+pub fn numbers(tree: &Tree, names: &[&str]) -> Vec<u32> {
     names.iter().map(|name| canonical(tree.field(name).float())).collect()
 }
 

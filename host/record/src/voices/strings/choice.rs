@@ -1,28 +1,11 @@
 //! The choice of the sequences: limits, branch points with their neighbours, and random ones.
 
-use super::format::{Given, MOST_FRAMES, Render};
-use crate::SEED;
-use crate::draws::{next, previous, unit};
-
-/// The lengths of blocks, from none to the most frames.
-const LENGTHS: [u32; 8] = [0, 1, 2, 3, 24, 64, 512, MOST_FRAMES];
+use super::super::choice::Play::{Both, Free, Sustain, Trigger};
+use super::super::choice::{Choice, Knobs, LENGTHS, LOWEST, MIDDLE, around, turn};
+use super::super::format::Given;
+use crate::draws::previous;
 
 const RATES: [f32; 4] = [8000.0, 44100.0, 48000.0, 192000.0];
-
-/// The lowest f0.
-const LOWEST: f32 = 1.0 / 1048576.0;
-
-#[derive(Clone, Copy)]
-struct Knobs {
-    accent: f32,
-    f0: f32,
-    structure: f32,
-    brightness: f32,
-    damping: f32,
-}
-
-const MIDDLE: Knobs =
-    Knobs { accent: 0.5, f0: 0.01, structure: 0.5, brightness: 0.5, damping: 0.5 };
 
 /// All knobs but f0 as they are loudest over a curved bridge.
 const LOUD: Knobs = Knobs { accent: 1.0, f0: 0.5, structure: 0.0, brightness: 1.0, damping: 1.0 };
@@ -30,17 +13,8 @@ const LOUD: Knobs = Knobs { accent: 1.0, f0: 0.5, structure: 0.0, brightness: 1.
 /// The knobs under which the level rises fastest.
 const RISING: Knobs = Knobs { f0: 0.25, structure: 0.25, brightness: 0.9, ..LOUD };
 
-#[derive(Clone, Copy)]
-enum Play {
-    Free,
-    Trigger,
-    Sustain,
-    Both,
-}
-use Play::{Both, Free, Sustain, Trigger};
-
 pub fn sequences() -> Vec<Vec<Given>> {
-    let mut choice = Choice { sequences: Vec::new(), word: SEED };
+    let mut choice = Strings(Choice::default());
     choice.ledger();
     choice.lengths();
     choice.pitches();
@@ -57,21 +31,7 @@ pub fn sequences() -> Vec<Vec<Given>> {
     choice.far_delays();
     choice.random();
     choice.fewest_frames();
-    choice.sequences
-}
-
-/// Each number with the float below and the float above.
-fn around(numbers: &[f32]) -> Vec<f32> {
-    numbers.iter().flat_map(|x| [x.next_down(), *x, x.next_up()]).collect()
-}
-
-/// The first float from x on of which it holds, with two floats before it and one after.
-fn turn(mut x: f32, holds: impl Fn(f32) -> bool) -> [f32; 4] {
-    while !holds(x) {
-        x = x.next_up();
-    }
-    let before = x.next_down();
-    [before.next_down(), before, x, x.next_up()]
+    choice.0.sequences
 }
 
 /// The turn of f0 from which on the phase is 1.
@@ -93,84 +53,26 @@ fn structures() -> Vec<f32> {
     [&plain[..], &around(&[0.24, 0.25, 0.26]), &noisy].concat()
 }
 
-struct Choice {
-    sequences: Vec<Vec<Given>>,
-    word: u32,
-}
+/// The string voice's own sequences.
+struct Strings(Choice);
 
-impl Choice {
-    fn draw(&mut self) -> f32 {
-        self.word = next(self.word);
-        unit(self.word)
-    }
-
-    /// A word whose successors are not those of the draws.
-    fn seed(&mut self) -> u32 {
-        self.word = next(self.word);
-        self.word.rotate_left(16).wrapping_mul(0x9e37_79b1)
-    }
-
-    fn pick<T: Copy>(&mut self, from: &[T]) -> T {
-        let place = (self.draw() * from.len() as f32) as usize;
-        from[place.min(from.len() - 1)]
-    }
-
-    fn add(&mut self, given: Given) {
-        assert!(given.accepted(), "{given:?} is not accepted");
-        self.sequences.last_mut().expect("an opening comes first").push(given);
-    }
-
-    /// Begins a sequence.
-    fn open(&mut self, sample_rate: f32) {
-        self.sequences.push(Vec::new());
-        self.add(Given::Open { sample_rate });
-    }
-
-    fn reset(&mut self) {
-        self.add(Given::Reset);
-    }
-
-    fn render(&mut self, play: Play, frames: u32, knobs: Knobs) {
-        let word = self.seed();
-        self.render_from(word, play, frames, knobs);
-    }
-
-    /// Renders with that word in the generator before it.
-    fn render_from(&mut self, word: u32, play: Play, frames: u32, knobs: Knobs) {
-        let fill = self.seed();
-        let Knobs { accent, f0, structure, brightness, damping } = knobs;
-        let sustain = matches!(play, Sustain | Both);
-        let trigger = matches!(play, Trigger | Both);
-        self.add(Given::Render(Render {
-            sustain,
-            trigger,
-            frames,
-            accent,
-            f0,
-            structure,
-            brightness,
-            damping,
-            word,
-            fill,
-        }));
-    }
-
+impl Strings {
     /// The example of 01, whose burst goes on over the next blocks.
     fn ledger(&mut self) {
         let knobs = Knobs { f0: 1.0 / 2048.0, ..MIDDLE };
-        self.open(48000.0);
-        self.render(Trigger, 8, knobs);
+        self.0.open(48000.0);
+        self.0.render(Trigger, 8, knobs);
         for frames in [8, 0, 24, 512, 512, 512, 512] {
-            self.render(Free, frames, knobs);
+            self.0.render(Free, frames, knobs);
         }
     }
 
     fn lengths(&mut self) {
         for structure in [0.0, 0.25, 0.5] {
-            self.open(48000.0);
+            self.0.open(48000.0);
             for frames in LENGTHS {
                 for play in [Trigger, Free, Sustain] {
-                    self.render(play, frames, Knobs { structure, ..MIDDLE });
+                    self.0.render(play, frames, Knobs { structure, ..MIDDLE });
                 }
             }
         }
@@ -178,35 +80,35 @@ impl Choice {
 
     fn pitches(&mut self) {
         for (rate, structure) in RATES.into_iter().zip([0.5, 0.25, 0.0, 0.9]) {
-            self.open(rate);
+            self.0.open(rate);
             for f0 in pitches() {
                 let knobs = Knobs { f0, structure, ..MIDDLE };
-                self.render(Trigger, 24, knobs);
-                self.render(Free, 64, knobs);
+                self.0.render(Trigger, 24, knobs);
+                self.0.render(Free, 64, knobs);
             }
         }
     }
 
     /// Blocks of no frames, which still set the phase, the filters and the samples left.
     fn empty_blocks(&mut self) {
-        self.open(44100.0);
+        self.0.open(44100.0);
         for f0 in whole_ratio().into_iter().chain([0.5, LOWEST, 1.0 / 3000.0]) {
             for (play, frames) in [(Trigger, 0), (Free, 1), (Sustain, 0), (Free, 2)] {
-                self.render(play, frames, Knobs { f0, ..MIDDLE });
+                self.0.render(play, frames, Knobs { f0, ..MIDDLE });
             }
         }
-        self.open(48000.0);
-        self.render(Free, 0, Knobs { f0: 0.5, ..MIDDLE });
-        self.reset();
-        self.render(Free, 3, Knobs { f0: LOWEST, structure: 0.0, ..MIDDLE });
+        self.0.open(48000.0);
+        self.0.render(Free, 0, Knobs { f0: 0.5, ..MIDDLE });
+        self.0.reset();
+        self.0.render(Free, 3, Knobs { f0: LOWEST, structure: 0.0, ..MIDDLE });
     }
 
     fn structures(&mut self) {
         for (rate, f0) in RATES.into_iter().zip([0.002, 0.02, 0.055, 0.2]) {
-            self.open(rate);
+            self.0.open(rate);
             for structure in structures() {
-                let play = self.pick(&[Trigger, Sustain, Both, Free]);
-                self.render(play, 64, Knobs { f0, structure, ..MIDDLE });
+                let play = self.0.pick(&[Trigger, Sustain, Both, Free]);
+                self.0.render(play, 64, Knobs { f0, structure, ..MIDDLE });
             }
         }
     }
@@ -217,14 +119,14 @@ impl Choice {
         for ((rate, accent), f0) in RATES.into_iter().zip(accents).zip([0.1, 0.02, 0.005, 0.3]) {
             // The accent brings these to 0.95.
             let infinite = turn(0.925, |damping| damping + 0.25 * accent * (1.0 - damping) >= 0.95);
-            self.open(rate);
+            self.0.open(rate);
             for brightness in [0.0, -0.0, 0.5, 1.0] {
                 let ends = [0.0, -0.0, 0.5, 1f32.next_down(), 1.0];
                 for damping in ends.into_iter().chain(infinite) {
-                    let play = self.pick(&[Trigger, Sustain, Both]);
-                    let structure = self.pick(&[0.0, 0.1, 0.25, 0.6, 0.95]);
+                    let play = self.0.pick(&[Trigger, Sustain, Both]);
+                    let structure = self.0.pick(&[0.0, 0.1, 0.25, 0.6, 0.95]);
                     let knobs = Knobs { accent, f0, structure, brightness, damping };
-                    self.render(play, 64, knobs);
+                    self.0.render(play, 64, knobs);
                 }
             }
         }
@@ -235,14 +137,14 @@ impl Choice {
         for (f0, frames, blocks) in [(0.002, 64, 9), (0.001, 512, 3), (2f32.powi(-14), 4096, 5)] {
             for structure in [0.1, 0.6] {
                 let knobs = Knobs { f0, structure, brightness: 0.8, ..MIDDLE };
-                self.open(44100.0);
-                self.render(Sustain, frames, knobs);
-                self.render(Both, frames / 2, Knobs { accent: 1.0, ..knobs });
+                self.0.open(44100.0);
+                self.0.render(Sustain, frames, knobs);
+                self.0.render(Both, frames / 2, Knobs { accent: 1.0, ..knobs });
                 for _ in 0..blocks {
-                    self.render(Free, frames, knobs);
+                    self.0.render(Free, frames, knobs);
                 }
-                self.render(Sustain, 24, knobs);
-                self.render(Free, 3, knobs);
+                self.0.render(Sustain, 24, knobs);
+                self.0.render(Free, 3, knobs);
             }
         }
     }
@@ -251,18 +153,18 @@ impl Choice {
     fn resets(&mut self) {
         for structure in [0.0, 0.25, 0.7] {
             let knobs = Knobs { f0: 1.0 / 300.0, structure, ..MIDDLE };
-            self.open(48000.0);
-            self.reset();
-            self.render(Trigger, 64, knobs);
-            self.reset();
-            self.render(Free, 64, knobs);
-            self.render(Sustain, 512, knobs);
-            self.reset();
-            self.reset();
-            self.render(Free, 24, knobs);
-            self.render(Free, 512, Knobs { f0: 1.0 / 1500.0, ..knobs });
-            self.reset();
-            self.render(Free, 1, Knobs { f0: 1.0 / 1500.0, ..knobs });
+            self.0.open(48000.0);
+            self.0.reset();
+            self.0.render(Trigger, 64, knobs);
+            self.0.reset();
+            self.0.render(Free, 64, knobs);
+            self.0.render(Sustain, 512, knobs);
+            self.0.reset();
+            self.0.reset();
+            self.0.render(Free, 24, knobs);
+            self.0.render(Free, 512, Knobs { f0: 1.0 / 1500.0, ..knobs });
+            self.0.reset();
+            self.0.render(Free, 1, Knobs { f0: 1.0 / 1500.0, ..knobs });
         }
     }
 
@@ -270,42 +172,42 @@ impl Choice {
     fn low_pitches(&mut self) {
         let slow = [1.0 / 1100.0, 1.0 / 2040.0, 1.0 / 4080.0, 0.0004, 2f32.powi(-14), LOWEST];
         for structure in [0.05, 0.75] {
-            self.open(48000.0);
+            self.0.open(48000.0);
             for f0 in slow {
                 let knobs = Knobs { accent: 0.8, f0, structure, ..MIDDLE };
-                self.render(Trigger, 512, knobs);
-                self.render(Free, 64, knobs);
-                self.render(Sustain, 64, knobs);
+                self.0.render(Trigger, 512, knobs);
+                self.0.render(Free, 64, knobs);
+                self.0.render(Sustain, 64, knobs);
             }
             for f0 in [LOWEST, 2f32.powi(-14), 0.0004] {
-                self.render(Both, 4096, Knobs { f0, structure, damping: 1.0, ..MIDDLE });
+                self.0.render(Both, 4096, Knobs { f0, structure, damping: 1.0, ..MIDDLE });
             }
         }
     }
 
     /// A trigger on every block, and none at all.
     fn every_block(&mut self) {
-        self.open(48000.0);
+        self.0.open(48000.0);
         for k in 0..24 {
             let f0 = 0.4 / (1.0 + k as f32);
             let structure = k as f32 / 23.0;
-            self.render(Trigger, 24, Knobs { f0, structure, ..MIDDLE });
+            self.0.render(Trigger, 24, Knobs { f0, structure, ..MIDDLE });
         }
-        self.open(48000.0);
+        self.0.open(48000.0);
         for (k, structure) in structures().into_iter().enumerate() {
             let f0 = 0.001 * (1.0 + k as f32);
-            self.render(Free, 24, Knobs { f0, structure, ..MIDDLE });
+            self.0.render(Free, 24, Knobs { f0, structure, ..MIDDLE });
         }
     }
 
     /// Words whose first draw is at an end of the floats of 0 to 1.
     fn words(&mut self) {
         for structure in [0.2, 0.9] {
-            self.open(48000.0);
+            self.0.open(48000.0);
             for drawn in [0, 1, 0xffff_ff7f, 0xffff_ff80, 0xffff_ffff] {
                 for (play, brightness) in [(Trigger, 0.5), (Sustain, 0.0), (Sustain, 1.0)] {
                     let knobs = Knobs { f0: 0.3, structure, brightness, ..MIDDLE };
-                    self.render_from(previous(drawn), play, 2, knobs);
+                    self.0.render_from(previous(drawn), play, 2, knobs);
                 }
             }
         }
@@ -315,10 +217,10 @@ impl Choice {
     fn tails(&mut self) {
         for (structure, f0) in [(0.0, 0.1), (0.25, 0.02), (0.6, 0.03)] {
             let knobs = Knobs { accent: 0.0, f0, structure, brightness: 0.2, damping: 0.0 };
-            self.open(48000.0);
-            self.render(Trigger, 512, knobs);
+            self.0.open(48000.0);
+            self.0.render(Trigger, 512, knobs);
             for _ in 0..40 {
-                self.render(Free, 512, knobs);
+                self.0.render(Free, 512, knobs);
             }
         }
     }
@@ -327,15 +229,15 @@ impl Choice {
     /// and f0 falls.
     fn loud(&mut self) {
         for frames in [200, 320, 450, 600] {
-            self.open(192000.0);
-            self.render(Sustain, 1, LOUD);
-            self.render(Sustain, frames, RISING);
+            self.0.open(192000.0);
+            self.0.render(Sustain, 1, LOUD);
+            self.0.render(Sustain, frames, RISING);
             for f0 in [0.1, 0.03, 0.01, 0.002, 1.0 / 1020.0] {
-                self.render(Sustain, 8, Knobs { f0, ..LOUD });
+                self.0.render(Sustain, 8, Knobs { f0, ..LOUD });
             }
-            self.render(Free, 64, Knobs { structure: 0.5, ..LOUD });
-            self.reset();
-            self.render(Trigger, 24, Knobs { structure: 0.1, ..LOUD });
+            self.0.render(Free, 64, Knobs { structure: 0.5, ..LOUD });
+            self.0.reset();
+            self.0.render(Trigger, 24, Knobs { structure: 0.1, ..LOUD });
         }
     }
 
@@ -347,11 +249,11 @@ impl Choice {
             [(520, 0, 0.0), (600, 2531, 0.0), (640, 388, 0.0), (640, 5157, 0.5), (640, 5208, 0.5)];
         for ((frames, word, damping), blocks) in found.into_iter().zip([6, 10, 16, 8, 8]) {
             let silent = Knobs { accent: 0.0, f0: 1.0 / 1020.0, brightness: 0.0, damping, ..LOUD };
-            self.open(192000.0);
-            self.render_from(word, Sustain, 1, LOUD);
-            self.render_from(word, Sustain, frames, RISING);
+            self.0.open(192000.0);
+            self.0.render_from(word, Sustain, 1, LOUD);
+            self.0.render_from(word, Sustain, frames, RISING);
             for _ in 0..blocks {
-                self.render_from(word, Free, 1, silent);
+                self.0.render_from(word, Free, 1, silent);
             }
         }
     }
@@ -359,9 +261,9 @@ impl Choice {
     /// Sequences of drawn calls.
     fn random(&mut self) {
         for _ in 0..40 {
-            let own = 8000.0 + 184000.0 * self.draw();
-            let rate = self.pick(&[RATES[0], RATES[1], RATES[2], RATES[3], own, own]);
-            self.open(rate);
+            let own = 8000.0 + 184000.0 * self.0.draw();
+            let rate = self.0.pick(&[RATES[0], RATES[1], RATES[2], RATES[3], own, own]);
+            self.0.open(rate);
             for _ in 0..12 {
                 self.random_call();
             }
@@ -378,37 +280,26 @@ impl Choice {
         let [structure, brightness, damping] =
             [0x3a8bf974, 0x3ecd0924, 0x3f52e71f].map(f32::from_bits);
         let third = Knobs { accent, f0, structure, brightness, damping };
-        self.open(f32::from_bits(0x47aba6d6));
-        self.render_from(0, Free, 1, first);
-        self.render_from(3451915375, Sustain, 355, second);
-        self.render_from(0, Sustain, 6, third);
-    }
-
-    /// An f0 whose bits are drawn, so that every octave is as likely.
-    fn any_pitch(&mut self) -> f32 {
-        let [lowest, highest] = [LOWEST, 0.5].map(f32::to_bits);
-        let above = self.draw() * (highest - lowest) as f32;
-        f32::from_bits((lowest + above as u32).min(highest))
+        self.0.open(f32::from_bits(0x47aba6d6));
+        self.0.render_from(0, Free, 1, first);
+        self.0.render_from(3451915375, Sustain, 355, second);
+        self.0.render_from(0, Sustain, 6, third);
     }
 
     fn random_call(&mut self) {
-        if self.draw() < 0.08 {
-            return self.reset();
+        if self.0.draw() < 0.08 {
+            return self.0.reset();
         }
-        let below = (self.draw() * 300.0) as u32;
-        let frames = self.pick(&[below, below, below, 24, 64, 0, 1, 512]);
-        let frames = if self.draw() < 0.02 { MOST_FRAMES } else { frames };
-        let play = self.pick(&[Trigger, Sustain, Both, Free, Free]);
-        let f0 = match self.draw() {
-            u if u < 0.25 => self.pick(&pitches()),
-            u if u < 0.5 => LOWEST.max(0.5 * self.draw()),
-            _ => self.any_pitch(),
+        let frames = self.0.frames();
+        let play = self.0.pick(&[Trigger, Sustain, Both, Free, Free]);
+        let f0 = match self.0.draw() {
+            u if u < 0.25 => self.0.pick(&pitches()),
+            u if u < 0.5 => LOWEST.max(0.5 * self.0.draw()),
+            _ => self.0.any_pitch(),
         };
-        let structure = if self.draw() < 0.3 { self.pick(&structures()) } else { self.draw() };
-        let [accent, brightness, damping] = [0; 3].map(|_| {
-            let drawn = self.draw();
-            self.pick(&[0.0, 1.0, drawn, drawn, drawn])
-        });
-        self.render(play, frames, Knobs { accent, f0, structure, brightness, damping });
+        let structure =
+            if self.0.draw() < 0.3 { self.0.pick(&structures()) } else { self.0.draw() };
+        let [accent, brightness, damping] = [0; 3].map(|_| self.0.knob());
+        self.0.render(play, frames, Knobs { accent, f0, structure, brightness, damping });
     }
 }
