@@ -14,6 +14,13 @@ pub struct Knobs {
     pub damping: f32,
 }
 
+// How many words a call drew, by what.
+pub struct Counts {
+    pub burst: usize,
+    pub dust: usize,
+    pub dispersion: usize,
+}
+
 // x moved a quarter of the way to 1, as far as the accent says.
 pub fn raise(accent: f32, x: f32) -> f32
     ensures { λ r. ⌜ r ≡ raised accent x ⌝ }

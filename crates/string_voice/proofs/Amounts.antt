@@ -13,9 +13,8 @@ use Rattle.bounds.proofs.Bounds.{Between, encloses, is-in, const-in, sub-in, mu
 use Rattle.bounds.proofs.Gaps.{tiny, above-gap, below-gap}
 use Rattle.string_voice.specs.declared.string.StringNonLinearity.{StringNonLinearity}
 use Rattle.string_voice.specs.declared.string.StringNonLinearity.the-variants.{CurvedBridge, Dispersion}
-use Rattle.string_voice.specs.String.{nonLinearity}
+use Rattle.string_voice.specs.String.{nonLinearity, wordsOf}
 use Rattle.string_voice.specs.StringVoice.{amount}
-use Rattle.string_voice.proofs.Steps.{wordsOf}
 
 -- two tests that pass together
 same : (a b : Bool) → (T a → T b) → (T (not a) → T (not b)) → a ≡ b

@@ -4,7 +4,7 @@ use mathlib.Core.List.{List}
 use Prim.Native.Nat.{ℕ, min}
 use lib.ListN.{length}
 use lib.Ieee.{Float}
-use Rattle.utils.specs.Draw.{run, Ran}
+use Rattle.utils.specs.Draw.{run, Ran, counted}
 use Rattle.utils.specs.Frames.{frames}
 use Rattle.utils.proofs.Draw.{Draws}
 use Rattle.utils.proofs.Frames.{after, drawn}
@@ -12,17 +12,17 @@ use Rattle.string_voice.specs.declared.string.StringNonLinearity.{String
 use Rattle.string_voice.specs.declared.string.Params.{Params}
 use Rattle.string_voice.specs.declared.string.Damping.{Damping}
 use Rattle.string_voice.specs.declared.string.String.{String}
-use Rattle.string_voice.specs.String.{amountOf, ratioOf, snap, dampingOf, paramsOf, tuned, frameOf, strung, Good}
-use Rattle.string_voice.proofs.Steps.{wrap, wordsAt, At, frames-draw}
+use Rattle.string_voice.specs.String.{amountOf, ratioOf, snap, dampingOf, paramsOf, tuned, wordsAt, frameOf, strung, Good}
+use Rattle.string_voice.proofs.Steps.{wrap, At, frames-draw}
 
 pub tuned-good : (s : String) (f0 : Float) (d : Damping) (lines : List Float) (t : String) → t ≡ tuned s f0 d → Good (s, lines) → Good (t, lines)
 unfolding tuned
 tuned-good s f0 d lines t e g = rw e (record { size = g .size; string = g .string; stretch = g .stretch })
 
 module _ (shape : StringNonLinearity) (f0 brightness damping : Float) (s : String) (lines xs ys : List Float) (word : ℕ) where
-  pub processed : {d : Damping} {x : Float} {p : Params} {t : String} {r : Ran ((String × List Float) × List Float)}
+  pub processed : {d : Damping} {x : Float} {p : Params} {t : String} {r : Ran (((String × List Float) × List Float) × ℕ)}
       → d ≡ dampingOf f0 brightness damping → x ≡ amountOf shape → p ≡ paramsOf s f0 x d (length ys) → t ≡ tuned s f0 d
-      → run (frames (frameOf shape p) (t, lines) xs ys) word ≡ r → run (strung shape f0 brightness damping (s, lines) xs ys) word ≡ r
+      → run (counted (frames (frameOf shape p) (t, lines) xs ys)) word ≡ r → run (counted (strung shape f0 brightness damping (s, lines) xs ys)) word ≡ r
   unfolding strung
   processed ed ex ep et e = rw (← ed, ← ex, ← ep, ← et) e
 

@@ -12,31 +12,24 @@ use Rattle.utils.specs.Frames.{frames}
 use Rattle.utils.specs.Floats.{wholePart}
 use Rattle.utils.specs.Filter.{svfStep, svfSetFQ}
 use Rattle.utils.specs.declared.filter.FrequencyApproximation.the-variants.{Dirty}
-use Rattle.utils.specs.Draw.{ret, _>>=_}
-use Rattle.utils.proofs.Draw.{Draws, draws-bind, draws-then}
+use Rattle.utils.specs.Draw.{ret, counted, _>>=_}
+use Rattle.utils.proofs.Draw.{Draws, draws-bind, draws-then, counted-draws}
 use Rattle.utils.proofs.Frames.{Any, after, drawn, frames-draws-each, length-scan}
-use Rattle.noise.specs.Excitation.{raised, dustFrequency, silence, addStep}
-use Rattle.noise.proofs.Drawn.{dusted-draws}
+use Rattle.noise.specs.declared.excitation.Counts.{Counts}
+use Rattle.noise.specs.Excitation.{raised, addStep}
 use Rattle.string_voice.specs.declared.string.StringNonLinearity.{StringNonLinearity}
 use Rattle.string_voice.specs.declared.string.String.{String}
 use Rattle.noise.specs.declared.excitation.Knobs.{Knobs}
 use Rattle.string_voice.specs.declared.string_voice.StringVoice.{StringVoice}
-use Rattle.string_voice.specs.String.{ratioOf, snap, nonLinearity, strung, Good}
-use Rattle.string_voice.specs.StringVoice.{cutoffFor, struck, noiseStep, burst, excitation, Excited, exciteOf, amount, Sounded, soundOf, After, renderOf}
-use Rattle.string_voice.proofs.Steps.{wrap, wordsAt, At}
+use Rattle.string_voice.specs.String.{ratioOf, snap, nonLinearity, wordsAt, strung, Good}
+use Rattle.string_voice.specs.StringVoice.{cutoffFor, struck, excitation, excitationWords, Excited, exciteOf, bothCounts, amount, Sounded, soundOf, After, renderOf}
+use Rattle.string_voice.proofs.Steps.{wrap, At}
 use Rattle.string_voice.proofs.Blocks.{ratioFor, strung-draws}
+use Rattle.string_voice.proofs.Excitations.{excitation-draws}
 use Rattle.string_voice.proofs.Halves.{struck-string}
 use Rattle.string_voice.proofs.Ranges.{Fundamental, left-in}
 
--- ---- the excitation
-
-burst-draws : (m n : ℕ) (temp : List Float) → length temp ≡ n → m ≤ n → Draws m (λ t. length t ≡ n) (burst m temp)
-unfolding burst
-burst-draws m n temp e l =
-    let quiet = silence temp in
-    draws-then m (λ q. Any (q .0) × (length (q .1) ≡ length quiet)) (λ t. length t ≡ n) (frames noiseStep tt (take m quiet) quiet) _
-    (frames-draws-each noiseStep Any (λ s x y h. (0, refl, λ w. (refl, tt))) m tt (take m quiet) quiet (simp (length-take, length-replicate) (omega arith)) tt)
-    (λ q p. p .1 ∙ length-replicate (length temp) c0 ∙ e)
+-- ---- the first half
 
 -- the words of the burst, and those of the dust
 abbrev pub burstWords : Bool → ℕ → ℕ → ℕ
@@ -44,14 +37,6 @@ burstWords sustain left n = cond sustain 0 (min left n)
 
 abbrev pub dustWords : Bool → ℕ → ℕ
 dustWords sustain n = cond sustain n 0
-
-excitation-draws : (sustain : Bool) (k : Knobs) (left n : ℕ) (temp : List Float) → length temp ≡ n
-    → Draws (burstWords sustain left n + dustWords sustain n) (λ t. length t ≡ n) (excitation sustain k left temp)
-unfolding excitation
-excitation-draws true k left n temp e = rw zero-add (dusted-draws (dustFrequency (k .brightness)) _ (k .accent) n temp e)
-excitation-draws false k left n temp e = rw (add-zero, e) (burst-draws (min left n) n temp e (omega arith))
-
--- ---- the first half
 
 -- what is left of the noise when a block begins, and behind n frames of it
 abbrev pub leftAt : Knobs → StringVoice → ℕ
@@ -66,20 +51,34 @@ pub record FirstHalf (k : Knobs) (v : StringVoice) (n : ℕ) (x : Excited) : Typ
   pub temp : length (x .temp) ≡ n
   pub temp2 : length (x .temp2) ≡ n
   pub aux : length (x .aux) ≡ n
+  pub burst : x .counts .burst ≡ burstWords (k .sustain) (leftAt k v) n
+  pub dust : x .counts .dust ≡ dustWords (k .sustain) n
+
+by-burst : (b : Bool) (l n drawn : ℕ) → drawn ≡ excitationWords b l n → cond b 0 drawn ≡ burstWords b l n
+by-burst true l n drawn e = refl
+by-burst false l n drawn e = e
+
+by-dust : (b : Bool) (l n drawn : ℕ) → drawn ≡ excitationWords b l n → cond b drawn 0 ≡ dustWords b n
+by-dust true l n drawn e = e
+by-dust false l n drawn e = refl
 
 pub excite-draws : (k : Knobs) (v : StringVoice) (n : ℕ) (temp temp2 aux : List Float) → length temp ≡ n → length temp2 ≡ n → length aux ≡ n
-    → Draws (burstWords (k .sustain) (leftAt k v) n + dustWords (k .sustain) n) (FirstHalf k v n) (exciteOf k v temp temp2 aux)
+    → Draws (excitationWords (k .sustain) (leftAt k v) n) (FirstHalf k v n) (exciteOf k v temp temp2 aux)
 unfolding exciteOf
 excite-draws k v n temp temp2 aux lt l2 la =
     let s = struck k v in
-    draws-then (burstWords (k .sustain) (leftAt k v) n + dustWords (k .sustain) n) (λ t. length t ≡ n) (FirstHalf k v n)
-    (excitation (k .sustain) k (leftAt k v) temp) _ (excitation-draws (k .sustain) k (leftAt k v) n temp lt)
+    let m = excitationWords (k .sustain) (leftAt k v) n in
+    draws-then m (λ t. (length (t .0) ≡ n) × (t .1 ≡ m)) (FirstHalf k v n)
+    (counted (excitation (k .sustain) k (leftAt k v) temp)) _
+    (counted-draws m (λ t. length t ≡ n) (excitation (k .sustain) k (leftAt k v) temp) (excitation-draws (k .sustain) k (leftAt k v) n temp lt))
     (λ t h. record {
       left = ap (λ (m : ℕ). cond (k .sustain) (leftAt k v) (leftAt k v - min (leftAt k v) m)) lt;
       string = struck-string k v;
-      temp = h;
-      temp2 = length-scan svfStep (s .«excitation_filter») t temp2 ∙ l2;
+      temp = h .0;
+      temp2 = length-scan svfStep (s .«excitation_filter») (t .0) temp2 ∙ l2;
       aux = length-scan addStep tt _ aux ∙ la;
+      burst = by-burst (k .sustain) (leftAt k v) n (t .1) (h .1);
+      dust = by-dust (k .sustain) (leftAt k v) n (t .1) (h .1);
     })
 
 -- ---- the second half, and both
@@ -101,16 +100,29 @@ pub record SecondHalf (k : Knobs) (v : StringVoice) (n : ℕ) (x : Sounded) : Ty
   pub left : x .voice .«remaining_noise_samples» ≡ v .«remaining_noise_samples»
   pub string : At (phaseAfter k (v .string) n) (x .voice .string, x .lines)
   pub out : length (x .out) ≡ n
+  pub dispersion : x .counts .dispersion ≡ dispersionWords k (v .string) n
 
 pub sound-draws : (k : Knobs) (v : StringVoice) (n : ℕ) (lines temp2 out : List Float) → Good (v .string, lines) → length temp2 ≡ n → length out ≡ n
     → Draws (dispersionWords k (v .string) n) (SecondHalf k v n) (soundOf k v lines temp2 out)
 unfolding soundOf
 sound-draws k v n lines temp2 out g l2 lo =
-    draws-then (dispersionWords k (v .string) n) (λ q. At (phaseAfter k (v .string) n) (q .0) × (length (q .1) ≡ length out)) (SecondHalf k v n) (strung (shapeOf k) (k .f0) (raised (k .accent) (k .brightness)) (raised (k .accent) (k .damping)) (v .string, lines) temp2 out) _
-    (strung-draws (shapeOf k) (k .f0) (raised (k .accent) (k .brightness)) (raised (k .accent) (k .damping)) n (v .string, lines) temp2 out (omega arith) g)
-    (λ q r. record { left = refl; string = r .0; out = r .1 ∙ lo })
+    let m = dispersionWords k (v .string) n in
+    let s = strung (shapeOf k) (k .f0) (raised (k .accent) (k .brightness)) (raised (k .accent) (k .damping)) (v .string, lines) temp2 out in
+    let P : (String × List Float) × List Float → Type 0 = λ q. At (phaseAfter k (v .string) n) (q .0) × (length (q .1) ≡ length out) in
+    draws-then m (λ q. P (q .0) × (q .1 ≡ m)) (SecondHalf k v n) (counted s) _
+    (counted-draws m P s (strung-draws (shapeOf k) (k .f0) (raised (k .accent) (k .brightness)) (raised (k .accent) (k .damping)) n (v .string, lines) temp2 out (omega arith) g))
+    (λ q r. record { left = refl; string = r .0 .0; out = r .0 .1 ∙ lo; dispersion = r .1 })
 
--- what a render of n frames leaves: what is left of the noise, the phase, and every length
+-- the words of a render of n frames
+abbrev pub countsOf : Knobs → StringVoice → ℕ → Counts
+countsOf k v n =
+    record {
+      burst = burstWords (k .sustain) (leftAt k v) n;
+      dust = dustWords (k .sustain) n;
+      dispersion = dispersionWords k (v .string) n;
+    }
+
+-- what a render of n frames leaves: what is left of the noise, the phase, every length, and the words that it drew
 pub record Left (k : Knobs) (v : StringVoice) (n : ℕ) (a : After) : Type 0 where
   pub left : a .voice .«remaining_noise_samples» ≡ leftAfter k v n
   pub string : At (phaseAfter k (v .string) n) (a .voice .string, a .lines)
@@ -118,19 +130,20 @@ pub record Left (k : Knobs) (v : StringVoice) (n : ℕ) (a : After) : Type 0 whe
   pub temp2 : length (a .temp2) ≡ n
   pub out : length (a .out) ≡ n
   pub aux : length (a .aux) ≡ n
+  pub counts : a .counts ≡ countsOf k v n
 
 -- burst or dust words first, dispersion words behind them
 pub render-draws : (k : Knobs) (v : StringVoice) (n : ℕ) (lines temp temp2 out aux : List Float)
     → Good (v .string, lines) → length temp ≡ n → length temp2 ≡ n → length out ≡ n → length aux ≡ n
-    → Draws (burstWords (k .sustain) (leftAt k v) n + dustWords (k .sustain) n + dispersionWords k (v .string) n) (Left k v n) (renderOf k v lines temp temp2 out aux)
+    → Draws (excitationWords (k .sustain) (leftAt k v) n + dispersionWords k (v .string) n) (Left k v n) (renderOf k v lines temp temp2 out aux)
 unfolding renderOf
 render-draws k v n lines temp temp2 out aux g lt l2 lo la =
-    draws-bind (burstWords (k .sustain) (leftAt k v) n + dustWords (k .sustain) n) (dispersionWords k (v .string) n) (FirstHalf k v n) (Left k v n)
+    draws-bind (excitationWords (k .sustain) (leftAt k v) n) (dispersionWords k (v .string) n) (FirstHalf k v n) (Left k v n)
     (exciteOf k v temp temp2 aux) _ (excite-draws k v n temp temp2 aux lt l2 la)
     (λ e h.
     let m = soundOf k (e .voice) lines (e .temp2) out in
     subst
-    (λ (t : String). Draws (dispersionWords k t n) (Left k v n) (m >>= λ s. ret record { voice = s .voice; lines = s .lines; temp = e .temp; temp2 = e .temp2; out = s .out; aux = e .aux }))
+    (λ (t : String). Draws (dispersionWords k t n) (Left k v n) (m >>= λ s. ret record { voice = s .voice; lines = s .lines; temp = e .temp; temp2 = e .temp2; out = s .out; aux = e .aux; counts = bothCounts (e .counts) (s .counts) }))
     (h .string)
     (draws-then (dispersionWords k (e .voice .string) n) (SecondHalf k (e .voice) n) (Left k v n) m _
     (sound-draws k (e .voice) n lines (e .temp2) out (subst⁻¹ (λ (t : String). Good (t, lines)) (h .string) g) (h .temp2) lo)
@@ -141,6 +154,11 @@ render-draws k v n lines temp temp2 out aux g lt l2 lo la =
       temp2 = h .temp2;
       out = r .out;
       aux = h .aux;
+      counts = λ i. record {
+        burst = h .burst i;
+        dust = h .dust i;
+        dispersion = (r .dispersion ∙ ap (λ (t : String). dispersionWords k t n) (h .string)) i;
+      };
     })))
 
 -- ---- left stays at most 1,048,576 for an f0 of 2^-20 or more

@@ -6,21 +6,23 @@ use Prim.Native.Nat.{ℕ, _-_, min}
 use lib.ListN.{length}
 use lib.Ieee.{Float}
 use Rattle.utils.specs.F32.{_⊗_, _⊖_, _⊘_, c0·499, c0·5, c1, c2, c4, c72}
-use Rattle.utils.specs.Draw.{run}
+use Rattle.utils.specs.Draw.{run, counted}
 use Rattle.utils.specs.Floats.{wholePart, minF}
 use Rattle.utils.specs.Units.{semitonesToRatio}
 use Rattle.utils.specs.Filter.{svfBuffer, svfSetFQ}
 use Rattle.utils.specs.declared.filter.Svf.{Svf}
 use Rattle.utils.specs.declared.filter.FrequencyApproximation.the-variants.{Dirty}
-use Rattle.utils.proofs.Draw.{run-then, Always, always-bind, always-run}
+use Rattle.utils.proofs.Draw.{run-then, Always, always-bind, always-run, counted-then}
 use Rattle.utils.proofs.Frames.{Any, always-any}
 use Rattle.string_voice.specs.declared.string.StringNonLinearity.{StringNonLinearity}
 use Rattle.string_voice.specs.declared.string.String.{String}
 use Rattle.noise.specs.declared.excitation.Knobs.{Knobs}
+use Rattle.noise.specs.declared.excitation.Counts.{Counts}
 use Rattle.noise.specs.Excitation.{raised, added}
 use Rattle.string_voice.specs.declared.string_voice.StringVoice.{StringVoice}
 use Rattle.string_voice.specs.String.{nonLinearity, strung, Good}
-use Rattle.string_voice.specs.StringVoice.{exciterSemitones, cutoffFor, struck, excitation, Excited, exciteOf, amount, soundOf, renderOf}
+use Rattle.string_voice.specs.StringVoice.{exciterSemitones, cutoffFor, struck, excitation, excitationWords, excitationCounts, Excited, exciteOf, bothCounts, amount, soundOf, renderOf}
+use Rattle.string_voice.proofs.Excitations.{excitation-draws}
 
 pub cut-off : (k : Knobs) (b ratio r : Float) → b ≡ raised (k .accent) (k .brightness) → ratio ≡ semitonesToRatio ((b ⊗ (c2 ⊖ b) ⊖ c0·5) ⊗ c72)
     → r ≡ minF (c4 ⊗ k .f0 ⊗ ratio) c0·499 → r ≡ cutoffFor k
@@ -39,47 +41,53 @@ module _ (k : Knobs) (v : StringVoice) where
   newly-struck h eq ec ef el = rw (h, ef, ec, eq, el)
 
 module _ (k : Knobs) (v s : StringVoice) (temp temp2 aux : List Float) (word : ℕ) where
-  pub excited : {left w : ℕ} {filter : Svf} {temp' temp2' aux' : List Float}
+  pub excited : {left w : ℕ} {filter : Svf} {temp' temp2' aux' : List Float} {counts : Counts}
       → s ≡ struck k v
       → left ≡ cond (k .sustain) (s .«remaining_noise_samples») (s .«remaining_noise_samples» - min (s .«remaining_noise_samples») (length temp))
       → run (excitation (k .sustain) k (s .«remaining_noise_samples») temp) word ≡ record { value = temp'; word = w }
       → _≡_ {A = Svf × List Float} (filter, temp2') (svfBuffer (s .«excitation_filter») temp' temp2)
       → aux' ≡ added temp2' aux
+      → counts ≡ excitationCounts (k .sustain) (excitationWords (k .sustain) (s .«remaining_noise_samples») (length temp))
       → run (exciteOf k v temp temp2 aux) word ≡ record {
         value = record {
           voice = record { «excitation_filter» = filter; string = s .string; «remaining_noise_samples» = left };
           temp = temp';
           temp2 = temp2';
           aux = aux';
+          counts = counts;
         };
         word = w;
       }
   unfolding exciteOf
-  excited es el et ef ea =
-      rw (← es) (run-then (excitation (k .sustain) k (s .«remaining_noise_samples») temp) _ word et ∙ rw (ea, ap (λ q. q .0) ef, ap (λ q. q .1) ef, el))
+  excited es el et ef ea ec =
+      let m = excitation (k .sustain) k (s .«remaining_noise_samples») temp in
+      let n = excitationWords (k .sustain) (s .«remaining_noise_samples») (length temp) in
+      let e = counted-then n (λ t. length t ≡ length temp) m word (excitation-draws (k .sustain) k (s .«remaining_noise_samples») (length temp) temp refl) et in
+      rw (← es) (run-then (counted m) _ word e ∙ rw (ec, ea, ap (λ q. q .0) ef, ap (λ q. q .1) ef, el))
 
 module _ (k : Knobs) (v : StringVoice) (lines temp2 out : List Float) (word : ℕ) where
-  pub sounded : {x b d : Float} {shape : StringNonLinearity} {string : String} {lines' out' : List Float} {w : ℕ}
+  pub sounded : {x b d : Float} {shape : StringNonLinearity} {string : String} {lines' out' : List Float} {w n : ℕ}
       → x ≡ amount (k .structure) → shape ≡ nonLinearity x → b ≡ raised (k .accent) (k .brightness) → d ≡ raised (k .accent) (k .damping)
-      → run (strung shape (k .f0) b d (v .string, lines) temp2 out) word ≡ record { value = ((string, lines'), out'); word = w }
+      → run (counted (strung shape (k .f0) b d (v .string, lines) temp2 out)) word ≡ record { value = (((string, lines'), out'), n); word = w }
       → run (soundOf k v lines temp2 out) word ≡ record {
         value = record {
           voice = record { «excitation_filter» = v .«excitation_filter»; string = string; «remaining_noise_samples» = v .«remaining_noise_samples» };
           lines = lines';
           out = out';
+          counts = record { burst = 0; dust = 0; dispersion = n };
         };
         word = w;
       }
   unfolding soundOf
   sounded {x} {b} {d} {shape} ex eh eb ed es =
-      rw (← ex, ← eh, ← eb, ← ed) (run-then (strung shape (k .f0) b d (v .string, lines) temp2 out) _ word es)
+      rw (← ex, ← eh, ← eb, ← ed) (run-then (counted (strung shape (k .f0) b d (v .string, lines) temp2 out)) _ word es)
 
 module _ (k : Knobs) (v : StringVoice) (lines temp temp2 out aux : List Float) (word : ℕ) where
-  pub rendered : {e r : StringVoice} {temp' temp2' aux' lines' out' : List Float} {w w' : ℕ}
-      → run (exciteOf k v temp temp2 aux) word ≡ record { value = record { voice = e; temp = temp'; temp2 = temp2'; aux = aux' }; word = w }
-      → run (soundOf k e lines temp2' out) w ≡ record { value = record { voice = r; lines = lines'; out = out' }; word = w' }
+  pub rendered : {e r : StringVoice} {temp' temp2' aux' lines' out' : List Float} {w w' : ℕ} {n m : Counts}
+      → run (exciteOf k v temp temp2 aux) word ≡ record { value = record { voice = e; temp = temp'; temp2 = temp2'; aux = aux'; counts = n }; word = w }
+      → run (soundOf k e lines temp2' out) w ≡ record { value = record { voice = r; lines = lines'; out = out'; counts = m }; word = w' }
       → run (renderOf k v lines temp temp2 out aux) word ≡ record {
-        value = record { voice = r; lines = lines'; temp = temp'; temp2 = temp2'; out = out'; aux = aux' };
+        value = record { voice = r; lines = lines'; temp = temp'; temp2 = temp2'; out = out'; aux = aux'; counts = bothCounts n m };
         word = w';
       }
   unfolding renderOf
@@ -99,10 +107,10 @@ excite-string : (k : Knobs) (v : StringVoice) (temp temp2 aux : List Float) → 
 unfolding exciteOf
 excite-string k v temp temp2 aux =
     let m = excitation (k .sustain) k (struck k v .«remaining_noise_samples») temp in
-    always-bind Any (λ (x : Excited). x .voice .string ≡ v .string) m _ (always-any m) (λ t _. struck-string k v)
+    always-bind Any (λ (x : Excited). x .voice .string ≡ v .string) (counted m) _ (always-any (counted m)) (λ t _. struck-string k v)
 
-pub string-kept : (k : Knobs) (v : StringVoice) (lines temp temp2 aux : List Float) (word : ℕ) {e : StringVoice} {temp' temp2' aux' : List Float} {w : ℕ}
-    → run (exciteOf k v temp temp2 aux) word ≡ record { value = record { voice = e; temp = temp'; temp2 = temp2'; aux = aux' }; word = w }
+pub string-kept : (k : Knobs) (v : StringVoice) (lines temp temp2 aux : List Float) (word : ℕ) {e : StringVoice} {temp' temp2' aux' : List Float} {n : Counts} {w : ℕ}
+    → run (exciteOf k v temp temp2 aux) word ≡ record { value = record { voice = e; temp = temp'; temp2 = temp2'; aux = aux'; counts = n }; word = w }
     → Good (v .string, lines) → Good (e .string, lines)
 string-kept k v lines temp temp2 aux word {e} h g =
     let s : e .string ≡ v .string = always-run (λ (x : Excited). x .voice .string ≡ v .string) (exciteOf k v temp temp2 aux) word (excite-string k v temp temp2 aux) h in

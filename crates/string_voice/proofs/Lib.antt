@@ -3,6 +3,7 @@ pub mod Knobs
 pub mod Steps
 pub mod Blocks
 pub mod Ranges
+pub mod Excitations
 pub mod Halves
 pub mod Drawn
 pub mod Amounts

@@ -1,14 +1,15 @@
 -- What the calls of the string's `step` ensure, put together; what a step and a frame keep; and the words that they draw. Assumes nothing.
-use mathlib.Core.Path.{_≡_, refl, _∙_, ap, subst}
+use mathlib.Core.Path.{_≡_, refl, sym, _∙_, ap, subst}
 use mathlib.Core.Bool.{Bool, true, false, cond}
 use mathlib.Core.List.{List, _++_}
-use Prim.Native.Nat.{ℕ, _+_, _-_, _<_, min}
+use Prim.Native.Nat.{ℕ, _+_, _-_, _≤_, _<_, min}
 use native.Mathlib.Nat.{mod-lt}
+use native.Mathlib.Numerals.{add-one}
 use native.Mathlib.Omega.{arith}
-use lib.ListN.{length, length-set, take, drop}
+use lib.ListN.{length, length-set, length-take, take, drop}
 use lib.Ieee.{Float, lt, neg}
 use Rattle.utils.specs.F32.{_⊕_, _⊖_, _⊗_, c1, c20}
-use Rattle.utils.specs.Draw.{Draw, ret, run}
+use Rattle.utils.specs.Draw.{Draw, ret, run, counted}
 use Rattle.utils.specs.Frames.{frames}
 use Rattle.utils.specs.Part.{part, put}
 use Rattle.utils.specs.Floats.{wholePart, clampF}
@@ -16,15 +17,15 @@ use Rattle.utils.specs.Filter.{svfOf, dcOf}
 use Rattle.utils.specs.DelayLine.{written, allpassOf, readFrac}
 use Rattle.utils.specs.declared.filter.SvfOut.{SvfOut}
 use Rattle.utils.specs.declared.filter.DcBlocker.{DcBlocker}
-use Rattle.utils.proofs.Draw.{run-then, Always, Draws, draws-always, draws-map, draws-then}
-use Rattle.utils.proofs.Frames.{Any, after, drawn, frames-draws}
+use Rattle.utils.proofs.Draw.{run-then, Always, always-run, Draws, draws-always, draws-map, draws-then, counted-then}
+use Rattle.utils.proofs.Frames.{Any, after, drawn, drawn-more, drawn-few, frames-draws, Frames, frames-end}
 use Rattle.utils.proofs.Part.{length-part, length-put}
 use Rattle.string_voice.specs.declared.string.StringNonLinearity.{StringNonLinearity}
 use Rattle.string_voice.specs.declared.string.StringNonLinearity.the-variants.{CurvedBridge, Dispersion}
 use Rattle.string_voice.specs.declared.string.Params.{Params}
 use Rattle.string_voice.specs.declared.string.String.{String}
 use Rattle.string_voice.specs.declared.string.Heard.{Heard}
-use Rattle.string_voice.specs.String.{bent, plain, allpassed, mainOf, stretched, heard, bridged, stepOf, atPhase, moved, frameOf, Good}
+use Rattle.string_voice.specs.String.{bent, plain, allpassed, mainOf, stretched, heard, bridged, stepOf, atPhase, wordsOf, wordsAt, moved, frameOf, Good}
 
 module _ (shape : StringNonLinearity) (p : Params) (x : Float) (t : String) (word : ℕ) (lines : List Float) where
   pub stepped : {delay noise : Float} {word' : ℕ} {h : Heard} {lines' : List Float} {held : Float} {dc : DcBlocker} {o : SvfOut} {next : ℕ} {line' : List Float} {bridge : Float}
@@ -106,17 +107,9 @@ heard-kept shape p t delay lines g =
 
 -- ---- the words that are drawn
 
--- a step draws one by the dispersion, none by the bridge
-abbrev pub wordsOf : StringNonLinearity → ℕ
-wordsOf (CurvedBridge a) = 0
-wordsOf (Dispersion a) = 1
-
--- the phase at the next frame, and the words of a frame
+-- the phase at the next frame
 abbrev pub wrap : Float → Float → Float
 wrap ratio phase = cond (lt c1 (phase ⊕ ratio)) (phase ⊕ ratio ⊖ c1) (phase ⊕ ratio)
-
-abbrev pub wordsAt : StringNonLinearity → Float → Float → ℕ
-wordsAt shape ratio phase = cond (lt c1 (phase ⊕ ratio)) (wordsOf shape) 0
 
 -- a string whose phase is g
 pub record At (g : Float) (s : String × List Float) : Type 0 where
@@ -190,3 +183,46 @@ pub frames-draw : (shape : StringNonLinearity) (p : Params) (n : ℕ) (s : Strin
 frames-draw shape p n s xs ys e g =
     frames-draws (frameOf shape p) (wrap (p .«src_ratio»)) (wordsAt shape (p .«src_ratio»)) At (frame-draws shape p) n (s .0 .«src_phase») s xs ys e
     (record { phase = refl; good = g })
+
+-- ---- the loop that counts the words drawn
+pub words-few : (shape : StringNonLinearity) → wordsOf shape ≤ 1
+words-few (CurvedBridge a) = omega arith
+words-few (Dispersion a) = omega arith
+
+frame-few : (shape : StringNonLinearity) (ratio phase : Float) → wordsAt shape ratio phase ≤ 1
+frame-few shape ratio phase = go (lt c1 (phase ⊕ ratio))
+  where
+    go : (b : Bool) → cond b (wordsOf shape) 0 ≤ 1
+    go true = words-few shape
+    go false = omega arith
+
+-- the words of the first n frames from a phase on
+abbrev pub wordsTo : StringNonLinearity → Params → Float → ℕ → ℕ
+wordsTo shape p phase n = drawn (wrap (p .«src_ratio»)) (wordsAt shape (p .«src_ratio»)) n phase
+
+pub words-to-few : (shape : StringNonLinearity) (p : Params) (phase : Float) (n : ℕ) → wordsTo shape p phase n ≤ n
+words-to-few shape p phase n = drawn-few (wrap (p .«src_ratio»)) (wordsAt shape (p .«src_ratio»)) (frame-few shape (p .«src_ratio»)) n phase
+
+-- i frames are done, and one frame more
+module _ (shape : StringNonLinearity) (p : Params) (s₀ : String × List Float) (xs ys₀ : List Float) (w₀ : ℕ) (good : Good s₀) where
+  pub words-turn : (i m n : ℕ) {s : String × List Float} {ys : List Float} {w : ℕ} → Frames (frameOf shape p) s₀ xs ys₀ w₀ i s ys w → i ≤ length xs
+      → m ≡ wordsTo shape p (s₀ .0 .«src_phase») i → n ≡ m + wordsAt shape (p .«src_ratio») (s .0 .«src_phase»)
+      → n ≡ wordsTo shape p (s₀ .0 .«src_phase») (i + 1)
+  words-turn i m n {s} f l e h =
+      let g = s₀ .0 .«src_phase» in
+      let size : i ≡ min (length (take i xs)) (length ys₀) = omega (arith, length-take i xs, f .within) in
+      let d = frames-draw shape p i s₀ (take i xs) ys₀ size good in
+      let at : s .0 .«src_phase» ≡ after (wrap (p .«src_ratio»)) i g =
+      always-run (λ q. At (after (wrap (p .«src_ratio»)) i g) (q .0) × (length (q .1) ≡ length ys₀)) (frames (frameOf shape p) s₀ (take i xs) ys₀) w₀ (draws-always _ _ (frames (frameOf shape p) s₀ (take i xs) ys₀) d) (f .so-far) .0 .phase in
+      h
+      ∙ ap (λ (k : ℕ). k + wordsAt shape (p .«src_ratio») (s .0 .«src_phase»)) e
+      ∙ ap (λ (x : Float). wordsTo shape p g i + wordsAt shape (p .«src_ratio») x) at
+      ∙ sym (ap (wordsTo shape p g) (add-one i) ∙ drawn-more (wrap (p .«src_ratio»)) (wordsAt shape (p .«src_ratio»)) i g)
+
+  pub words-end : (i n : ℕ) {s : String × List Float} {ys : List Float} {w : ℕ} → Frames (frameOf shape p) s₀ xs ys₀ w₀ i s ys w → min (length xs) (length ys₀) ≤ i
+      → n ≡ wordsTo shape p (s₀ .0 .«src_phase») i
+      → run (counted (frames (frameOf shape p) s₀ xs ys₀)) w₀ ≡ record { value = ((s, ys), n); word = w }
+  words-end i n {s} {ys} {w} f l e =
+      let size : i ≡ min (length xs) (length ys₀) = omega (arith, f .within) in
+      counted-then (wordsTo shape p (s₀ .0 .«src_phase») i) _ (frames (frameOf shape p) s₀ xs ys₀) w₀ (frames-draw shape p i s₀ xs ys₀ size good) (frames-end f l)
+      ∙ ap (λ (k : ℕ). record { value = ((s, ys), k); word = w }) (sym e)

@@ -95,6 +95,11 @@ abbrev pub amountOf : StringNonLinearity → Float
 amountOf (CurvedBridge a) = a
 amountOf (Dispersion a) = a
 
+-- the words that a step draws: one by the dispersion, none by the bridge
+abbrev pub wordsOf : StringNonLinearity → ℕ
+wordsOf (CurvedBridge a) = 0
+wordsOf (Dispersion a) = 1
+
 -- 1/f0 held to what the line holds
 unfoldable pub delayOf : Float → Float
 delayOf f0 = clampF (c1 ⊘ f0) c4 c1020
@@ -262,6 +267,10 @@ unfoldable pub moved : StringNonLinearity → Params → Float → String × Lis
 moved shape p x s =
     let phase = s .0 .«src_phase» ⊕ p .«src_ratio» in
     cond (lt c1 phase) (stepOf shape p x (atPhase (s .0) (phase ⊖ c1), s .1)) (ret (atPhase (s .0) phase, s .1))
+
+-- the words of a frame at a phase
+abbrev pub wordsAt : StringNonLinearity → Float → Float → ℕ
+wordsAt shape ratio phase = cond (lt c1 (phase ⊕ ratio)) (wordsOf shape) 0
 
 -- the last two samples, crossfaded, are added to the output
 unfoldable pub mixed : Float → String → Float

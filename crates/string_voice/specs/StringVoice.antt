@@ -5,7 +5,7 @@ use Prim.Native.Nat.{ℕ, _-_, _≤_, min}
 use lib.ListN.{length, take}
 use lib.Ieee.{Float, lt}
 use Rattle.utils.specs.F32.{_⊖_, _⊗_, _⊘_, c0, c0·24, c0·26, c0·499, c0·5, c1, c1·35135, c2, c4, c4·166, c6, c8, c72}
-use Rattle.utils.specs.Draw.{Draw, ret, ask, _>>=_}
+use Rattle.utils.specs.Draw.{Draw, ret, ask, counted, _>>=_}
 use Rattle.utils.specs.Frames.{frames, scan}
 use Rattle.utils.specs.Floats.{wholePart, minF}
 use Rattle.utils.specs.Random.{noiseOf}
@@ -13,6 +13,7 @@ use Rattle.utils.specs.Units.{semitonesToRatio}
 use Rattle.utils.specs.Filter.{svfNew, svfInit, svfSetFQ, svfBuffer}
 use Rattle.utils.specs.declared.filter.FrequencyApproximation.the-variants.{Dirty}
 use Rattle.noise.specs.declared.excitation.Knobs.{Knobs}
+use Rattle.noise.specs.declared.excitation.Counts.{Counts}
 use Rattle.noise.specs.Excitation.{raised, dustFrequency, dusted, silence, added}
 use Rattle.string_voice.specs.declared.string_voice.StringVoice.{StringVoice}
 use Rattle.string_voice.specs.String.{stringNew, stringInit, stringReset, initOf, resetOf, nonLinearity, strung}
@@ -71,6 +72,14 @@ pub record Excited : Type 0 where
   pub temp : List Float
   pub temp2 : List Float
   pub aux : List Float
+  pub counts : Counts
+
+-- the words of an excitation, by what they are drawn
+abbrev pub excitationWords : Bool → ℕ → ℕ → ℕ
+excitationWords sustain left n = cond sustain n (min left n)
+
+abbrev pub excitationCounts : Bool → ℕ → Counts
+excitationCounts sustain drawn = record { burst = cond sustain 0 drawn; dust = cond sustain drawn 0; dispersion = 0 }
 
 -- the voice after the burst, with the filter's memory
 abbrev pub keptOf : Knobs → StringVoice → ℕ → StringVoice
@@ -84,14 +93,15 @@ keptOf k v n =
 unfoldable pub exciteOf : Knobs → StringVoice → List Float → List Float → List Float → Draw Excited
 exciteOf k v temp temp2 aux =
     let s = struck k v in
-    excitation (k .sustain) k (s .«remaining_noise_samples») temp >>= λ t.
-    let f = svfBuffer (s .«excitation_filter») t temp2 in
+    counted (excitation (k .sustain) k (s .«remaining_noise_samples») temp) >>= λ t.
+    let f = svfBuffer (s .«excitation_filter») (t .0) temp2 in
     let w = keptOf k s (length temp) in
     ret record {
       voice = record { «excitation_filter» = f .0; string = w .string; «remaining_noise_samples» = w .«remaining_noise_samples» };
-      temp = t;
+      temp = t .0;
       temp2 = f .1;
       aux = added (f .1) aux;
+      counts = excitationCounts (k .sustain) (t .1);
     }
 
 -- ---- the second half
@@ -105,17 +115,22 @@ pub record Sounded : Type 0 where
   pub voice : StringVoice
   pub lines : List Float
   pub out : List Float
+  pub counts : Counts
 
 unfoldable pub soundOf : Knobs → StringVoice → List Float → List Float → List Float → Draw Sounded
 soundOf k v lines temp2 out =
-    strung (nonLinearity (amount (k .structure))) (k .f0) (raised (k .accent) (k .brightness)) (raised (k .accent) (k .damping)) (v .string, lines) temp2 out >>= λ s.
+    counted (strung (nonLinearity (amount (k .structure))) (k .f0) (raised (k .accent) (k .brightness)) (raised (k .accent) (k .damping)) (v .string, lines) temp2 out) >>= λ s.
     ret record {
-      voice = record { «excitation_filter» = v .«excitation_filter»; string = s .0 .0; «remaining_noise_samples» = v .«remaining_noise_samples» };
-      lines = s .0 .1;
-      out = s .1;
+      voice = record { «excitation_filter» = v .«excitation_filter»; string = s .0 .0 .0; «remaining_noise_samples» = v .«remaining_noise_samples» };
+      lines = s .0 .0 .1;
+      out = s .0 .1;
+      counts = record { burst = 0; dust = 0; dispersion = s .1 };
     }
 
--- ---- StringVoice::render: what it leaves, the voice, its lines and each buffer
+-- ---- StringVoice::render: what it leaves, the voice, its lines and each buffer, and the words that it drew
+abbrev pub bothCounts : Counts → Counts → Counts
+bothCounts e s = record { burst = e .burst; dust = e .dust; dispersion = s .dispersion }
+
 pub record After : Type 0 where
   pub voice : StringVoice
   pub lines : List Float
@@ -123,9 +138,10 @@ pub record After : Type 0 where
   pub temp2 : List Float
   pub out : List Float
   pub aux : List Float
+  pub counts : Counts
 
 unfoldable pub renderOf : Knobs → StringVoice → List Float → List Float → List Float → List Float → List Float → Draw After
 renderOf k v lines temp temp2 out aux =
     exciteOf k v temp temp2 aux >>= λ e.
     soundOf k (e .voice) lines (e .temp2) out >>= λ s.
-    ret record { voice = s .voice; lines = s .lines; temp = e .temp; temp2 = e .temp2; out = s .out; aux = e .aux }
+    ret record { voice = s .voice; lines = s .lines; temp = e .temp; temp2 = e .temp2; out = s .out; aux = e .aux; counts = bothCounts (e .counts) (s .counts) }

@@ -1,10 +1,10 @@
 // Comb filter / KS string. "Lite" version of the implementation used in Rings.
 ghost use mathlib.Core.Path.{_≡_};
-ghost use Prim.Native.Nat.{_≤_, _^_};
+ghost use Prim.Native.Nat.{_+_, _≤_, _<_, _^_};
 ghost use lib.ListN.{length};
-ghost use Rattle.utils.specs.Draw.{run, Ran};
+ghost use Rattle.utils.specs.Draw.{run, Ran, counted};
 ghost use Rattle.utils.specs.Frames.{frames};
-ghost use Rattle.string_voice.specs.String.{stringNew, initOf, resetOf, nonLinearity, amountOf, delayOf, snap, dampingOf, compensationOf, noiseAmount, noiseAfter, Ahead, paramsOf, tuned, bent, plain, allpassed, mainOf, stretched, heard, bridged, stepOf, atPhase, moved, mixed, frameOf, strung, Good};
+ghost use Rattle.string_voice.specs.String.{stringNew, initOf, resetOf, nonLinearity, amountOf, wordsOf, wordsAt, delayOf, snap, dampingOf, compensationOf, noiseAmount, noiseAfter, Ahead, paramsOf, tuned, bent, plain, allpassed, mainOf, stretched, heard, bridged, stepOf, atPhase, moved, mixed, frameOf, strung, Good};
 use utils::filter::DcBlocker;
 use utils::filter::FrequencyApproximation;
 use utils::filter::Svf;
@@ -55,11 +55,19 @@ pub struct Live {
     pub word: u32,
 }
 
-// A string within its loop, with the dispersion noise of its next step.
+// A string after a block, the generator's word, and how many words the block drew.
+pub struct Played {
+    pub string: String,
+    pub word: u32,
+    pub drawn: usize,
+}
+
+// A string within its loop, with the dispersion noise of its next step and the words drawn so far.
 pub struct Underway {
     pub string: String,
     pub word: u32,
     pub next_noise: f32,
+    pub drawn: usize,
 }
 
 // A delay that is bent, with the dispersion noise and the word after it, and the noise of the next step.
@@ -94,6 +102,16 @@ pub fn non_linearity(amount: f32) -> StringNonLinearity
         return StringNonLinearity::CurvedBridge(-amount);
     }
     StringNonLinearity::Dispersion(amount)
+}
+
+// How many words a step draws.
+fn words_of(shape: StringNonLinearity) -> usize
+    ensures { λ r. ⌜ r ≡ wordsOf shape ⌝ }
+{
+    match shape {
+        StringNonLinearity::CurvedBridge(_) => 0,
+        StringNonLinearity::Dispersion(_) => 1,
+    }
 }
 
 // 1/f0, held to what the line holds.
@@ -304,8 +322,9 @@ fn step(
     p: Params,
     in_sample: f32,
 ) -> Underway
-    requires { ⌜ Good (v .string, now lines) × Ahead p v ⌝ }
-    ensures { λ r. ⌜ (run (stepOf shape p «in_sample» (v .string, now (lines .entry))) (v .word) ≡ record { value = (r .string, now (lines .exit)); word = r .word }) × Ahead p r ⌝ }
+    requires { ⌜ Good (v .string, now lines) × Ahead p v × (v .drawn < 2 ^ 63) ⌝ }
+    ensures { λ r. ⌜ (run (stepOf shape p «in_sample» (v .string, now (lines .entry))) (v .word) ≡ record { value = (r .string, now (lines .exit)); word = r .word })
+        × Ahead p r × (r .drawn ≡ v .drawn + wordsOf shape) ⌝ }
 {
     let t = v.string;
     let delay = t.delay + p.increment;
@@ -339,10 +358,12 @@ fn step(
         out_sample_1: t.out_sample_0,
         sample_rate_hz: t.sample_rate_hz,
     };
+    let drawn = v.drawn + words_of(shape);
     Underway {
         string,
         word: b.word,
         next_noise: b.next_noise,
+        drawn,
     }
 }
 
@@ -353,8 +374,9 @@ fn advance(
     p: Params,
     in_sample: f32,
 ) -> Underway
-    requires { ⌜ Good (v .string, now lines) × Ahead p v ⌝ }
-    ensures { λ r. ⌜ (run (moved shape p «in_sample» (v .string, now (lines .entry))) (v .word) ≡ record { value = (r .string, now (lines .exit)); word = r .word }) × Ahead p r ⌝ }
+    requires { ⌜ Good (v .string, now lines) × Ahead p v × (v .drawn < 2 ^ 63) ⌝ }
+    ensures { λ r. ⌜ (run (moved shape p «in_sample» (v .string, now (lines .entry))) (v .word) ≡ record { value = (r .string, now (lines .exit)); word = r .word })
+        × Ahead p r × (r .drawn ≡ v .drawn + wordsAt shape (p .«src_ratio») (v .string .«src_phase»)) ⌝ }
 {
     let s = v.string;
     let phase = s.src_phase + p.src_ratio;
@@ -365,6 +387,7 @@ fn advance(
                 string: s.at_phase(phase - 1.0),
                 word: v.word,
                 next_noise: v.next_noise,
+                drawn: v.drawn,
             },
             shape,
             p,
@@ -375,6 +398,7 @@ fn advance(
             string: s.at_phase(phase),
             word: v.word,
             next_noise: v.next_noise,
+            drawn: v.drawn,
         }
     }
 }
@@ -502,10 +526,10 @@ fn run_frames(
     p: Params,
     in_: &[f32],
     out: &mut [f32],
-) -> Live
-    requires { ⌜ Good (v .string, now lines) ⌝ }
-    ensures { λ r. ⌜ run (frames (frameOf shape p) (v .string, now (lines .entry)) (now (in_ .entry)) (now (out .entry))) (v .word)
-        ≡ record { value = ((r .string, now (lines .exit)), now (out .exit)); word = r .word } ⌝ }
+) -> Played
+    requires { ⌜ Good (v .string, now lines) × (length (now out) ≤ 2 ^ 24) ⌝ }
+    ensures { λ r. ⌜ run (counted (frames (frameOf shape p) (v .string, now (lines .entry)) (now (in_ .entry)) (now (out .entry)))) (v .word)
+        ≡ record { value = (((r .string, now (lines .exit)), now (out .exit)), r .drawn); word = r .word } ⌝ }
 {
     let n = utils::min_usize(in_.len(), out.len());
     let s = v.string;
@@ -513,6 +537,7 @@ fn run_frames(
         string: s,
         word: v.word,
         next_noise: noise_after(p, s.dispersion_noise, v.word),
+        drawn: 0,
     };
     let mut i = 0;
     while i < n {
@@ -521,9 +546,10 @@ fn run_frames(
         i += 1;
     }
     let string = u.string;
-    Live {
+    Played {
         string,
         word: u.word,
+        drawn: u.drawn,
     }
 }
 
@@ -536,10 +562,10 @@ pub fn process(
     damping: f32,
     in_: &[f32],
     out: &mut [f32],
-) -> Live
+) -> Played
     requires { ⌜ Good (v .string, now lines) × (length (now out) ≤ 2 ^ 24) ⌝ }
-    ensures { λ r. ⌜ run (strung shape f0 brightness damping (v .string, now (lines .entry)) (now (in_ .entry)) (now (out .entry))) (v .word)
-        ≡ record { value = ((r .string, now (lines .exit)), now (out .exit)); word = r .word } ⌝ }
+    ensures { λ r. ⌜ run (counted (strung shape f0 brightness damping (v .string, now (lines .entry)) (now (in_ .entry)) (now (out .entry)))) (v .word)
+        ≡ record { value = (((r .string, now (lines .exit)), now (out .exit)), r .drawn); word = r .word } ⌝ }
 {
     let d = damping_of(f0, brightness, damping);
     let s = v.string;

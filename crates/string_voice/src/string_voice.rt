@@ -7,8 +7,9 @@ ghost use Rattle.utils.specs.F32.{c0·5, c1};
 ghost use Rattle.utils.specs.Draw.{run, Ran};
 ghost use Rattle.string_voice.specs.String.{Good};
 ghost use Rattle.noise.specs.Excitation.{added};
-ghost use Rattle.string_voice.specs.StringVoice.{voiceNew, voiceInit, voiceReset, cutoffFor, struck, burst, excitation, Excited, exciteOf, amount, Sounded, soundOf, After, renderOf};
+ghost use Rattle.string_voice.specs.StringVoice.{voiceNew, voiceInit, voiceReset, cutoffFor, struck, burst, excitation, excitationWords, excitationCounts, bothCounts, Excited, exciteOf, amount, Sounded, soundOf, After, renderOf};
 use crate::string::String;
+use noise::excitation::Counts;
 use noise::excitation::Knobs;
 use utils::filter::FrequencyApproximation;
 use utils::filter::Svf;
@@ -20,10 +21,11 @@ pub struct StringVoice {
     pub remaining_noise_samples: usize,
 }
 
-// A voice after a render or a half of one, and the generator's word.
+// A voice after a render or a half of one, the generator's word, and the words drawn.
 pub struct Rendered {
     pub voice: StringVoice,
     pub word: u32,
+    pub counts: Counts,
 }
 
 // The cutoff of the excitation filter.
@@ -82,6 +84,24 @@ fn noise_left(sustain: bool, left: usize, n: usize) -> usize
     left - utils::min_usize(left, n)
 }
 
+// The words of the excitation of n frames, where so much is left of the noise.
+fn counts_of(sustain: bool, left: usize, n: usize) -> Counts
+    ensures { λ r. ⌜ r ≡ excitationCounts sustain (excitationWords sustain left n) ⌝ }
+{
+    if sustain {
+        return Counts {
+            burst: 0,
+            dust: n,
+            dispersion: 0,
+        };
+    }
+    Counts {
+        burst: utils::min_usize(left, n),
+        dust: 0,
+        dispersion: 0,
+    }
+}
+
 fn amount_for(structure: f32) -> f32
     ensures { λ r. ⌜ r ≡ amount structure ⌝ }
 {
@@ -92,6 +112,17 @@ fn amount_for(structure: f32) -> f32
         return (structure - 0.26) * 1.35135;
     }
     0.0
+}
+
+// The words of both halves.
+fn joined(e: Counts, s: Counts) -> Counts
+    ensures { λ r. ⌜ r ≡ bothCounts e s ⌝ }
+{
+    Counts {
+        burst: e.burst,
+        dust: e.dust,
+        dispersion: s.dispersion,
+    }
 }
 
 impl StringVoice {
@@ -163,13 +194,14 @@ impl StringVoice {
         word: u32,
     ) -> Rendered
         ensures { λ r. ⌜ run (exciteOf k self (now (temp .entry)) (now («temp_2» .entry)) (now (aux .entry))) word ≡ record {
-          value = record { voice = r .voice; temp = now (temp .exit); temp2 = now («temp_2» .exit); aux = now (aux .exit) };
+          value = record { voice = r .voice; temp = now (temp .exit); temp2 = now («temp_2» .exit); aux = now (aux .exit); counts = r .counts };
           word = r .word;
         } ⌝ }
     {
         let struck = self.strike(k);
         let before = struck.remaining_noise_samples;
         let left = noise_left(k.sustain, before, temp.len());
+        let counts = counts_of(k.sustain, before, temp.len());
         let drawn = fill_excitation(k, before, temp, word);
         let filter = struck.excitation_filter;
         let excitation_filter = filter.process_buffer(temp, temp_2);
@@ -180,7 +212,11 @@ impl StringVoice {
             string,
             remaining_noise_samples: left,
         };
-        Rendered { voice, word: drawn }
+        Rendered {
+            voice,
+            word: drawn,
+            counts,
+        }
     }
 
     // The second half: the string from temp_2 into out.
@@ -194,7 +230,7 @@ impl StringVoice {
     ) -> Rendered
         requires { ⌜ Good (self .string, now lines) × (length (now out) ≤ 2 ^ 24) ⌝ }
         ensures { λ r. ⌜ run (soundOf k self (now (lines .entry)) (now («temp_2» .entry)) (now (out .entry))) word ≡ record {
-          value = record { voice = r .voice; lines = now (lines .exit); out = now (out .exit) };
+          value = record { voice = r .voice; lines = now (lines .exit); out = now (out .exit); counts = r .counts };
           word = r .word;
         } ⌝ }
     {
@@ -214,9 +250,15 @@ impl StringVoice {
             string,
             remaining_noise_samples: self.remaining_noise_samples,
         };
+        let counts = Counts {
+            burst: 0,
+            dust: 0,
+            dispersion: s.drawn,
+        };
         Rendered {
             voice,
             word: s.word,
+            counts,
         }
     }
 
@@ -239,12 +281,19 @@ impl StringVoice {
             temp2 = now («temp_2» .exit);
             out = now (out .exit);
             aux = now (aux .exit);
+            counts = r .counts;
           };
           word = r .word;
         } ⌝ }
     {
         let e = self.excite(k, temp, temp_2, aux, word);
         let excited = e.voice;
-        excited.sound(k, lines, temp_2, out, e.word)
+        let s = excited.sound(k, lines, temp_2, out, e.word);
+        let voice = s.voice;
+        Rendered {
+            voice,
+            word: s.word,
+            counts: joined(e.counts, s.counts),
+        }
     }
 }

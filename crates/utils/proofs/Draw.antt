@@ -6,7 +6,7 @@ use mathlib.Core.Option.{some}
 use Prim.Native.Nat.{ℕ, zero, suc, _+_, _<_}
 use native.Mathlib.Nat.{zero-add, suc-add, not-suc-le-zero, le-of-suc-le-suc}
 use lib.ListN.{length, getD}
-use Rattle.utils.specs.Draw.{Draw, ret, ask, Ran, next, moved, stream, run, value, ending, words, fed, _>>=_}
+use Rattle.utils.specs.Draw.{Draw, ret, ask, Ran, next, moved, stream, run, value, ending, words, fed, counted, _>>=_}
 
 -- ---- the generator
 
@@ -120,3 +120,25 @@ module _ {A B : Type 0} where
       → Draws n P m → ((a : A) → P a → Q (f a)) → Draws n Q (m >>= λ a. ret (f a))
   draws-then n P Q (ret a) f h g = (h .0, g a (h .1))
   draws-then n P Q (ask k) f h g = (h .0, h .1, λ w. draws-then (h .0) P Q (k w) f (h .2 w) g)
+
+-- ---- a computation with the number of its words
+
+module _ {A : Type 0} where
+  pub counted-draws : (n : ℕ) (P : A → Type 0) (m : Draw A) → Draws n P m → Draws n (λ q. P (q .0) × (q .1 ≡ n)) (counted m)
+  counted-draws n P (ret a) h = (h .0, (h .1, sym (h .0)))
+  counted-draws n P (ask k) h = (
+    h .0,
+    h .1,
+    λ w. draws-then (h .0) (λ q. P (q .0) × (q .1 ≡ h .0)) (λ q. P (q .0) × (q .1 ≡ n)) (counted (k w)) (λ q. (q .0, suc (q .1))) (counted-draws (h .0) P (k w) (h .2 w)) (λ q p. (p .0, ap suc (p .1) ∙ sym (h .1))),
+  )
+
+  run-counted : (n : ℕ) (P : A → Type 0) (m : Draw A) (w : ℕ) → Draws n P m → run (counted m) w ≡ record { value = (run m w .value, n); word = run m w .word }
+  run-counted n P (ret a) w h = ap (λ (j : ℕ). record { value = (a, j); word = w }) (sym (h .0))
+  run-counted n P (ask k) w h =
+      run-then (counted (k (next w))) _ (next w) (run-counted (h .0) P (k (next w)) (next w) (h .2 (next w)))
+      ∙ ap (λ (j : ℕ). record { value = (run (k (next w)) (next w) .value, j); word = run (k (next w)) (next w) .word }) (sym (h .1))
+
+  -- what it is known to give, and how many words it draws
+  pub counted-then : (n : ℕ) (P : A → Type 0) (m : Draw A) (w : ℕ) {a : A} {v : ℕ} → Draws n P m → run m w ≡ record { value = a; word = v }
+      → run (counted m) w ≡ record { value = (a, n); word = v }
+  counted-then n P m w h e = run-counted n P m w h ∙ ap (λ (r : Ran A). record { value = (r .value, n); word = r .word }) e

@@ -84,6 +84,15 @@ module _ {G : Type 0} (go : G → G) (count : G → ℕ) where
   drawn zero g = 0
   drawn (suc n) g = count g + drawn n (go g)
 
+  -- one frame more, and where each draws at most one
+  pub drawn-more : (n : ℕ) (g : G) → drawn (suc n) g ≡ drawn n g + count (after go n g)
+  drawn-more zero g = omega arith
+  drawn-more (suc n) g = omega (arith, drawn-more n (go g))
+
+  pub drawn-few : ((g : G) → count g ≤ 1) → (n : ℕ) (g : G) → drawn n g ≤ n
+  drawn-few few zero g = omega arith
+  drawn-few few (suc n) g = omega (arith, few g, drawn-few few n (go g))
+
 module _ {S A B G : Type 0} (step : S → A → B → Draw (S × B)) (go : G → G) (count : G → ℕ) (Good : G → S → Type 0)
     (one : (g : G) (s : S) (x : A) (y : B) → Good g s → Draws (count g) (λ r. Good (go g) (r .0)) (step s x y)) where
   pub frames-draws : (n : ℕ) (g : G) (s : S) (xs : List A) (ys : List B) → n ≡ min (length xs) (length ys) → Good g s

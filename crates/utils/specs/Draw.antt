@@ -57,3 +57,9 @@ module _ {A B : Type 0} where
   abbrev pub _>>=_ : Draw A → (A → Draw B) → Draw B
   ret a >>= f = f a
   ask k >>= f = ask (λ w. k w >>= f)
+
+module _ {A : Type 0} where
+  -- with the number of its words
+  abbrev pub counted : Draw A → Draw (A × ℕ)
+  counted (ret a) = ret (a, 0)
+  counted (ask k) = ask (λ w. counted (k w) >>= λ q. ret (q .0, suc (q .1)))

@@ -3,7 +3,11 @@
 use std::process::ExitCode;
 
 #[cfg(not(any(no_plaits, no_leaves)))]
+mod buffers;
+#[cfg(not(any(no_plaits, no_leaves)))]
 mod leaves;
+#[cfg(not(any(no_plaits, no_leaves)))]
+mod modals;
 #[cfg(not(any(no_plaits, no_leaves)))]
 mod ratio;
 #[cfg(not(any(no_plaits, no_leaves)))]
@@ -15,6 +19,7 @@ mod strings;
 fn main() -> ExitCode {
     run::all();
     strings::all();
+    modals::all();
     ExitCode::SUCCESS
 }
 

@@ -5,6 +5,7 @@ use std::hint::black_box;
 use oracle::physical_modelling::string_voice::StringVoice;
 use oracle::utils::random;
 
+use crate::buffers::{Buffers, same, silent};
 use crate::ratio::compare;
 
 unsafe extern "C" {
@@ -43,13 +44,6 @@ const SETTINGS: [Setting; 5] = [
     Setting("low pitch, bridge", false, 0.0003, 0.1),
     Setting("low pitch, dispersion", false, 0.0003, 0.8),
 ];
-
-/// temp, temp_2, out and aux.
-type Buffers = [Vec<f32>; 4];
-
-fn silent(frames: usize) -> Buffers {
-    std::array::from_fn(|_| vec![0.0; frames])
-}
 
 #[inline(never)]
 fn rust(setting: Setting, blocks: usize, word: u32, buffers: &mut Buffers) {
@@ -104,9 +98,7 @@ fn setting(setting: Setting, frames: usize) {
     let (mut a, mut b, mut lines) = (silent(frames), silent(frames), vec![0.0; 1280]);
     rust(setting, blocks, 33, &mut a);
     port(setting, blocks, 33, &mut lines, &mut b);
-    let bits =
-        |buffers: &Buffers| -> Vec<u32> { buffers.iter().flatten().map(|x| x.to_bits()).collect() };
-    assert!(bits(&a) == bits(&b), "the bits differ");
+    assert!(same(&a, &b), "the bits differ");
     compare(
         &format!("string, {}, blocks of {frames}", setting.0),
         || rust(black_box(setting), blocks, 33, &mut a),

@@ -1,4 +1,5 @@
 -- `string::advance` meets its contract: a step only where the phase passes 1.
+use native.Mathlib.Omega.{arith}
 use denote.Ref.{now}
 use Rattle.string_voice.specs.String.{moved}
 use Rattle.string_voice.proofs.Steps.{phase-good}
@@ -10,7 +11,7 @@ at-phase-requires : tie.Need-at-phase-requires
 at-phase-requires c κs = search needs
 
 step-requires : tie.Need-step-requires
-step-requires c κs = let s = c .before .before .before .before .before .before .before in rw (c .at-phase .ensures) (phase-good (s .args .v .string) _ (now (s .args .lines)) (s .pre .0), s .pre .1)
+step-requires c κs = let s = c .before .before .before .before .before .before .before in rw (c .at-phase .ensures) (phase-good (s .args .v .string) _ (now (s .args .lines)) (s .pre .0), s .pre .1, s .pre .2)
 
 at-phase-requires-2 : tie.Need-at-phase-requires-2
 at-phase-requires-2 c κs = search needs
@@ -24,7 +25,7 @@ returns c = rw (c .before .before .before .before .before .if1 .taken) (rw (c .b
 
 returns-2 : tie.Need-returns-2
 unfolding moved
-returns-2 c = (rw (c .before .if1 .left, c .at-phase2 .ensures), rw (c .at-phase2 .ensures) (c .before .before .before .before .before .before .pre .1))
+returns-2 c = (rw (c .before .if1 .left, c .at-phase2 .ensures), rw (c .at-phase2 .ensures) (c .before .before .before .before .before .before .pre .1), rw (c .before .if1 .left) (omega arith))
 
 pub advance-spec : {M : Type 1} → statement M
 advance-spec =

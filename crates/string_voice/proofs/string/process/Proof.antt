@@ -20,7 +20,9 @@ tune-requires : tie.Need-tune-requires
 tune-requires c κs = search needs
 
 run-frames-requires : tie.Need-run-frames-requires
-run-frames-requires c κs = let s = c .before .before .before .before .before .before .before .before .before .before in tuned-good (s .args .v .string) (s .args .f0) _ (now (s .args .lines)) _ (c .before .before .tune .ensures) (s .pre .0)
+run-frames-requires c κs =
+    let s = c .before .before .before .before .before .before .before .before .before .before in
+    (tuned-good (s .args .v .string) (s .args .f0) _ (now (s .args .lines)) _ (c .before .before .tune .ensures) (s .pre .0), s .pre .1)
 
 same-length : tie.Need-same-length
 same-length c = search needs

@@ -1,7 +1,9 @@
 -- `string::step` meets its contract, by the law that puts its calls together.
+use mathlib.Core.Path.{ap}
+use Prim.Native.Nat.{ℕ, _+_}
 use denote.Ref.{now}
 use native.Mathlib.Omega.{arith}
-use Rattle.string_voice.proofs.Steps.{stepped}
+use Rattle.string_voice.proofs.Steps.{stepped, words-few}
 use borrow.Author.Needs.{needs}
 use Rattle.string_voice.proofs.string.step.Statement.{statement}
 use Rattle.string_voice.proofs.string.step.Tie as tie
@@ -36,15 +38,22 @@ write-requires c κs = omega (arith, c .before .before .before .before .before .
 curve-requires : tie.Need-curve-requires
 curve-requires c κs = search needs
 
+words-of-requires : tie.Need-words-of-requires
+words-of-requires c κs = search needs
+
+add-drawn : tie.Need-add-drawn
+add-drawn c = omega (arith, c .before .words-of .ensures, words-few (c .before .before .before .before .before .before .before .before .before .before .before .before .before .before .before .before .before .before .before .before .before .before .before .args .shape), c .before .before .before .before .before .before .before .before .before .before .before .before .before .before .before .before .before .before .before .before .before .before .before .pre .2)
+
 same-length : tie.Need-same-length
 same-length c = search needs
 
 returns : tie.Need-returns
 returns c =
-    let a = c .before .before .before .before .before .before .before .before .before .before .before .before .before .before .before .before .before .before .before .before .before .args in (
-      stepped (a .shape) (a .p) (a .in-sample) (a .v .string) (a .v .word) (now (a .lines)) (c .before .before .before .before .before .before .before .before .before .before .before .before .before .before .before .before .bend .ensures .0) (c .before .before .before .before .before .before .before .before .before .before .before .before .before .before .hear .ensures) (c .before .before .before .before .before .before .before .before .before .clamp .ensures)
-          (c .before .before .before .before .before .before .before .process-sample .ensures) (c .before .before .before .before .before .before .process .ensures) (c .before .before .before .before .write .ensures) (c .curve .ensures),
-      c .before .before .before .before .before .before .before .before .before .before .before .before .before .before .before .before .bend .ensures .1,
+    let a = c .before .before .before .before .before .before .before .before .before .before .before .before .before .before .before .before .before .before .before .before .before .before .before .args in
+    let e = c .before .before .before .before .before .before .before .before .before .before .before .before .before .before .before .before .before .before .bend .ensures in (
+      stepped (a .shape) (a .p) (a .in-sample) (a .v .string) (a .v .word) (now (a .lines)) (e .0) (c .before .before .before .before .before .before .before .before .before .before .before .before .before .before .before .before .hear .ensures) (c .before .before .before .before .before .before .before .before .before .before .before .clamp .ensures) (c .before .before .before .before .before .before .before .before .before .process-sample .ensures) (c .before .before .before .before .before .before .before .before .process .ensures) (c .before .before .before .before .before .before .write .ensures) (c .before .before .curve .ensures),
+      e .1,
+      ap (λ (k : ℕ). a .v .drawn + k) (c .before .words-of .ensures),
     )
 
 pub step-spec : {M : Type 1} → statement M
@@ -61,5 +70,7 @@ step-spec =
     part-write-end
     write-requires
     curve-requires
+    words-of-requires
+    add-drawn
     same-length
     returns)

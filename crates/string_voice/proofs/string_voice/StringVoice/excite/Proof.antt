@@ -11,6 +11,9 @@ strike-requires c κs = search needs
 noise-left-requires : tie.Need-noise-left-requires
 noise-left-requires c κs = search needs
 
+counts-of-requires : tie.Need-counts-of-requires
+counts-of-requires c κs = search needs
+
 fill-excitation-requires : tie.Need-fill-excitation-requires
 fill-excitation-requires c κs = search needs
 
@@ -31,9 +34,9 @@ same-length-3 c = search needs
 
 returns : tie.Need-returns
 returns c =
-    let a = c .before .before .before .before .before .before .before .before .before .before .before .before .before .before .before .before .before .before .before .before .before .args in
-    excited (a .k) (a .self) (c .before .before .before .before .before .before .before .before .before .before .before .before .before .before .before .before .before .strike .result) (now (a .temp)) (now (a .temp-2)) (now (a .aux)) (a .word) (c .before .before .before .before .before .before .before .before .before .before .before .before .before .before .before .before .before .strike .ensures) (c .before .before .before .before .before .before .before .before .before .before .before .before .before .before .before .before .noise-left .ensures)
-    (c .before .before .before .before .before .before .before .before .before .before .before .before .before .before .fill-excitation .ensures) (c .before .before .before .before .before .before .before .before .process-buffer .ensures) (c .before .before .before .add-into .ensures)
+    let a = c .before .before .before .before .before .before .before .before .before .before .before .before .before .before .before .before .before .before .before .before .before .before .args in
+    let s = c .before .before .before .before .before .before .before .before .before .before .before .before .before .before .before .before .before .before .strike in
+    excited (a .k) (a .self) (s .result) (now (a .temp)) (now (a .temp-2)) (now (a .aux)) (a .word) (s .ensures) (c .before .before .before .before .before .before .before .before .before .before .before .before .before .before .before .before .before .noise-left .ensures) (c .before .before .before .before .before .before .before .before .before .before .before .before .before .before .fill-excitation .ensures) (c .before .before .before .before .before .before .before .before .process-buffer .ensures) (c .before .before .before .add-into .ensures) (c .before .before .before .before .before .before .before .before .before .before .before .before .before .before .before .before .counts-of .ensures)
 
 pub excite-spec : {M : Type 1} → statement M
 excite-spec =
@@ -41,6 +44,7 @@ excite-spec =
     (tie.spec
     strike-requires
     noise-left-requires
+    counts-of-requires
     fill-excitation-requires
     process-buffer-requires
     add-into-requires

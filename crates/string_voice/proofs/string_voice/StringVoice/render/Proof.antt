@@ -17,6 +17,9 @@ sound-requires c κs =
       omega (arith, s .pre .1),
     )
 
+joined-requires : tie.Need-joined-requires
+joined-requires c κs = search needs
+
 same-length : tie.Need-same-length
 same-length c = search needs
 
@@ -34,8 +37,9 @@ same-length-5 c = search needs
 
 returns : tie.Need-returns
 returns c =
-    let a = c .before .before .before .before .before .before .before .before .before .before .before .before .before .before .before .before .before .before .before .before .before .before .before .before .args in
-    rendered (a .k) (a .self) (now (a .lines)) (now (a .temp)) (now (a .temp-2)) (now (a .out)) (now (a .aux)) (a .word) (c .before .before .before .before .before .before .before .before .before .before .before .before .before .before .before .excite .ensures) (c .before .before .before .before .sound .ensures)
+    let a = c .before .before .before .before .before .before .before .before .before .before .before .before .before .before .before .before .before .before .before .before .before .before .before .before .before .before .args in
+    rw (c .joined .ensures)
+    (rendered (a .k) (a .self) (now (a .lines)) (now (a .temp)) (now (a .temp-2)) (now (a .out)) (now (a .aux)) (a .word) (c .before .before .before .before .before .before .before .before .before .before .before .before .before .before .before .before .before .excite .ensures) (c .before .before .before .before .before .before .sound .ensures))
 
 pub render-spec : {M : Type 1} → statement M
 render-spec =
@@ -43,6 +47,7 @@ render-spec =
     (tie.spec
     excite-requires
     sound-requires
+    joined-requires
     same-length
     same-length-2
     same-length-3

@@ -1,0 +1,15 @@
+//! The buffers of a render.
+
+/// temp, temp_2, out and aux.
+pub type Buffers = [Vec<f32>; 4];
+
+pub fn silent(frames: usize) -> Buffers {
+    std::array::from_fn(|_| vec![0.0; frames])
+}
+
+/// Whether every sample has the same bits.
+pub fn same(a: &Buffers, b: &Buffers) -> bool {
+    let bits =
+        |buffers: &Buffers| -> Vec<u32> { buffers.iter().flatten().map(|x| x.to_bits()).collect() };
+    bits(a) == bits(b)
+}
