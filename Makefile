@@ -9,7 +9,7 @@ test:
 
 bench:
 	@rt staticlib leaves_abi >/dev/null
-	@rt staticlib strings_abi >/dev/null
+	@rt staticlib voices_abi >/dev/null
 	@host/cargo run --quiet --profile speed -p bench
 
 record:

@@ -10,7 +10,7 @@ fn main() {
     }
     let manifest = env::var_os("CARGO_MANIFEST_DIR").expect("cargo sets it");
     let folder = Path::new(&manifest).join("../../target/staticlib");
-    let names = ["leaves_abi", "strings_abi"];
+    let names = ["leaves_abi", "voices_abi"];
     for name in names {
         println!("cargo::rerun-if-changed={}", folder.join(format!("lib{name}.a")).display());
     }

@@ -1,2 +1,3 @@
 -- Laws that the proofs of this crate cite.
 pub mod Blocks
+pub mod Strings

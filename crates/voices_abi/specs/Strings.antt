@@ -1,25 +1,33 @@
--- Blocks of a string voice, one after the other. Assumes nothing.
+-- Blocks of a string voice. Assumes nothing.
 use mathlib.Core.Bool.{Bool, cond, _&&_}
 use mathlib.Core.List.{List}
-use Prim.Native.Nat.{ℕ, zero, suc}
-use lib.Dec.{eqb, ltb}
+use Prim.Native.Nat.{ℕ}
+use lib.Dec.{eqb}
 use lib.ListN.{length}
 use lib.Ieee.{Float}
 use Rattle.utils.specs.Draw.{Draw, ret, _>>=_}
 use Rattle.noise.specs.declared.excitation.Knobs.{Knobs}
-use Rattle.string_voice.specs.StringVoice.{voiceNew, voiceInit, After, renderOf}
+use Rattle.string_voice.specs.declared.string_voice.StringVoice.{StringVoice}
+use Rattle.string_voice.specs.StringVoice.{voiceNew, voiceInit, renderOf}
+use Rattle.voices_abi.specs.Blocks.{times, alikeSizes}
 
--- n times, each on what the one before left
-abbrev pub times : {A : Type 0} → ℕ → (A → Draw A) → A → Draw A
-times zero f a = ret a
-times (suc n) f a = times n f a >>= f
+-- a voice, its lines and the buffers
+pub record Playing : Type 0 where
+  pub voice : StringVoice
+  pub lines : List Float
+  pub temp : List Float
+  pub temp2 : List Float
+  pub out : List Float
+  pub aux : List Float
 
 -- a render on what is there
-abbrev pub again : Knobs → After → Draw After
-again k a = renderOf k (a .voice) (a .lines) (a .temp) (a .temp2) (a .out) (a .aux)
+abbrev pub again : Knobs → Playing → Draw Playing
+again k a =
+    renderOf k (a .voice) (a .lines) (a .temp) (a .temp2) (a .out) (a .aux) >>= λ r.
+    ret record { voice = r .voice; lines = r .lines; temp = r .temp; temp2 = r .temp2; out = r .out; aux = r .aux }
 
 -- a new voice at a sample rate
-abbrev pub opened : Float → List Float → List Float → List Float → List Float → List Float → After
+abbrev pub opened : Float → List Float → List Float → List Float → List Float → List Float → Playing
 opened rate lines temp temp2 out aux =
     let v = voiceInit voiceNew rate lines in
     record { voice = v .0; lines = v .1; temp = temp; temp2 = temp2; out = out; aux = aux }
@@ -27,11 +35,11 @@ opened rate lines temp temp2 out aux =
 abbrev pub Buffers : Type 0
 Buffers = List Float × (List Float × (List Float × (List Float × List Float)))
 
-abbrev pub buffers : After → Buffers
+abbrev pub buffers : Playing → Buffers
 buffers a = (a .lines, (a .temp, (a .temp2, (a .out, a .aux))))
 
 abbrev pub sizesFit : ℕ → ℕ → ℕ → ℕ → ℕ → Bool
-sizesFit lines temp temp2 out aux = eqb lines 1280 && eqb temp out && eqb temp2 out && eqb aux out && ltb out 4097
+sizesFit lines temp temp2 out aux = eqb lines 1280 && alikeSizes temp temp2 out aux
 
 -- blocks of a new voice, where the sizes are a voice's
 unfoldable pub blocksOf : Float → Knobs → ℕ → List Float → List Float → List Float → List Float → List Float → Draw Buffers

@@ -1,20 +1,26 @@
-// Blocks of a string voice, one after the other.
+// Blocks of each voice, one after the other.
 ghost use mathlib.Core.Path.{_≡_};
 ghost use Rattle.utils.specs.Draw.{run, Ran};
-ghost use Rattle.string_voice.specs.StringVoice.{After};
-ghost use Rattle.strings_abi.specs.Strings.{sizesFit, blocksOf};
+ghost use Rattle.voices_abi.specs.Blocks.{alikeSizes};
+ghost use Rattle.voices_abi.specs.Strings.{sizesFit, blocksOf};
 use noise::excitation::Knobs;
-use string_voice::string_voice::Rendered;
 use string_voice::string_voice::StringVoice;
 
-// Whether lines and buffers have a voice's sizes.
+// Whether buffers have one length, which the bank accepts.
+fn alike(temp: usize, temp_2: usize, out: usize, aux: usize) -> bool
+    ensures { λ r. ⌜ r ≡ alikeSizes temp «temp_2» out aux ⌝ }
+{
+    (temp == out) & (temp_2 == out) & (aux == out) & (out < 4097)
+}
+
+// Whether lines and buffers have a string voice's sizes.
 fn fits(lines: usize, temp: usize, temp_2: usize, out: usize, aux: usize) -> bool
     ensures { λ r. ⌜ r ≡ sizesFit lines temp «temp_2» out aux ⌝ }
 {
-    (lines == 1280) & (temp == out) & (temp_2 == out) & (aux == out) & (out < 4097)
+    (lines == 1280) & alike(temp, temp_2, out, aux)
 }
 
-// A new voice renders the same buffers over and over; gives the generator's word after them.
+// A new string voice renders the same buffers over and over; gives the generator's word after them.
 // Lines and buffers of other sizes than a voice's are left alone.
 #[no_mangle]
 pub extern "C" fn strings_render(
@@ -59,13 +65,14 @@ pub extern "C" fn strings_render(
         brightness,
         damping,
     };
-    let voice = StringVoice::new().init(sample_rate_hz, lines);
-    let mut r = Rendered { voice, word };
+    let mut voice = StringVoice::new().init(sample_rate_hz, lines);
+    let mut drawn = word;
     let mut i = 0;
     while i < blocks {
-        let v = r.voice;
-        r = v.render(k, lines, temp, temp_2, out, aux, r.word);
+        let r = voice.render(k, lines, temp, temp_2, out, aux, drawn);
+        voice = r.voice;
+        drawn = r.word;
         i += 1;
     }
-    r.word
+    drawn
 }
