@@ -1,13 +1,7 @@
 // Asks the port every question of the records again, and prints what was compared and how much differed.
-mod draws;
-mod format;
-mod functions;
-mod print;
-mod records;
-mod report;
-mod strings;
-mod tally;
-mod words;
+use answers::draws;
+use answers::format;
+use answers::print;
 
 fn main() {
     leaves();
@@ -23,7 +17,7 @@ fn leaves() {
     }
     let h = header_of(fd);
     if h.whole {
-        report::all(records::read_all(fd, records::begin(h.checksum)), h.stated);
+        leaf_answers::replay(fd, h.stated, h.checksum);
     }
     libc::close(fd);
 }
@@ -37,7 +31,7 @@ fn sequences() {
     }
     let h = header_of(fd);
     if h.whole {
-        strings::replay(fd, h.stated, h.checksum);
+        string_answers::replay(fd, h.stated, h.checksum);
     }
     libc::close(fd);
 }
@@ -52,8 +46,8 @@ struct Header {
 // Reads a header and prints its text.
 fn header_of(fd: i32) -> Header {
     let mut header = [0u8; 128];
-    let read = io::read_full(fd, &mut header);
-    if read != 128 {
+    let r = format::read_bytes(fd, &mut header, draws::digest_begin());
+    if r.read != 128 {
         print::say(b"the file is shorter than its header\n");
         return Header {
             whole: false,
@@ -64,7 +58,7 @@ fn header_of(fd: i32) -> Header {
     Header {
         whole: true,
         stated: header_line(&header),
-        checksum: draws::digest_of_bytes(draws::digest_begin(), &header),
+        checksum: r.checksum,
     }
 }
 

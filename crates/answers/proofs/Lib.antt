@@ -1,0 +1,3 @@
+-- Laws that the proofs of this crate and of others cite. Assumes nothing.
+pub mod Counting
+pub mod Floats

@@ -1,0 +1,54 @@
+-- `answers::calls::inputs_of` is safe and ends. Assumes nothing.
+use Prim.Native.Nat.{_≤_, _-_}
+use borrow.Author.Needs.{needs}
+use Rattle.answers.proofs.calls.inputs_of.Statement.{statement}
+use Rattle.answers.proofs.calls.inputs_of.Tie as tie
+
+abbrev Inv-loop : tie.InvT-loop
+Inv-loop row inputs₀ k₀ inputs k = k ≤ 11
+
+abbrev μ-loop : tie.MeasureT-loop
+μ-loop row inputs₀ k₀ inputs k = 11 - k
+
+loop-holds : tie.Need-loop-holds Inv-loop μ-loop
+loop-holds c = search needs
+
+mul-inputs : tie.Need-mul-inputs Inv-loop μ-loop
+mul-inputs c = search needs
+
+array-read-inputs : tie.Need-array-read-inputs Inv-loop μ-loop
+array-read-inputs c = search needs
+
+mul-inputs-2 : tie.Need-mul-inputs-2 Inv-loop μ-loop
+mul-inputs-2 c = search needs
+
+array-write-inputs : tie.Need-array-write-inputs Inv-loop μ-loop
+array-write-inputs c = search needs
+
+add-k : tie.Need-add-k Inv-loop μ-loop
+add-k c = search needs
+
+loop-less : tie.Need-loop-less Inv-loop μ-loop
+loop-less c = search needs
+
+loop-again : tie.Need-loop-again Inv-loop μ-loop
+loop-again c = search needs
+
+returns : tie.Need-returns Inv-loop μ-loop
+returns c = search needs
+
+pub inputs-of-spec : {M : Type 1} → statement M
+inputs-of-spec =
+    tie.close
+    (tie.spec
+    Inv-loop
+    μ-loop
+    loop-holds
+    mul-inputs
+    array-read-inputs
+    mul-inputs-2
+    array-write-inputs
+    add-k
+    loop-less
+    loop-again
+    returns)

@@ -1,0 +1,24 @@
+-- `answers::words::float_of` meets its contract. Assumes nothing.
+use mathlib.Core.Path.{sym, _∙_}
+use lib.Ieee.{binary32, ofBits, div}
+use lib.Ieee.Bits.{nanBits-is, nanBits-above}
+use borrow.Author.Tests.{lt-ltb, le-ltb}
+use borrow.Author.Needs.{needs}
+use Rattle.answers.proofs.Floats.{is-nan}
+use Rattle.answers.proofs.words.float_of.Statement.{statement}
+use Rattle.answers.proofs.words.float_of.Tie as tie
+
+returns : tie.Need-returns
+unfolding div ofBits
+returns c =
+    let p = c .before .args .pattern in
+    sym (is-nan (ofBits binary32 p) (sym (nanBits-is binary32 p) ∙ nanBits-above binary32 p ∙ lt-ltb _ _ (c .if1 .taken)))
+
+float-from-bits-result : tie.Need-float-from-bits-result
+float-from-bits-result c = rw (nanBits-above binary32 (c .before .args .pattern) ∙ le-ltb _ _ (c .if1 .left)) tt
+
+returns-2 : tie.Need-returns-2
+returns-2 c = search needs
+
+pub float-of-spec : {M : Type 1} → statement M
+float-of-spec = tie.close (tie.spec returns float-from-bits-result returns-2)

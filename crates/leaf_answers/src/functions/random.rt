@@ -1,0 +1,15 @@
+// The generator and the dust, from a seed.
+use answers::words::float_of;
+use answers::words::pattern_of;
+
+pub fn draw(seed: u32) -> [u32; 7] {
+    let word = utils::random::get_word(seed);
+    let u = utils::random::get_float(word);
+    let noise = utils::random::noise(word);
+    [word, pattern_of(u), pattern_of(noise), 0, 0, 0, 0]
+}
+
+pub fn dust(frequency: u32, seed: u32) -> [u32; 7] {
+    let drawn = noise::dust::dust(float_of(frequency), seed);
+    [pattern_of(drawn.value), drawn.word, 0, 0, 0, 0, 0]
+}

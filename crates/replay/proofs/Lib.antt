@@ -1,4 +1,0 @@
--- Laws of `replay` that belong to no one function. Assumes nothing.
-pub mod Counting
-pub mod Floats
-pub mod Places

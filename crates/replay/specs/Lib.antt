@@ -1,3 +1,0 @@
--- What the contracts of `replay` cite. Assumes nothing.
-pub mod Counts
-pub mod Words
