@@ -1,5 +1,5 @@
 -- The law of every loop. What a loop's proof cites begins at `Frames`: the invariant, and how a loop begins, turns and ends.
-use mathlib.Core.Path.{_≡_, refl, sym, ap, _∙_, subst}
+use mathlib.Core.Path.{_≡_, refl, sym, ap, ap₂, _∙_, subst}
 use mathlib.Core.List.{List, [], _∷_}
 use Prim.Native.Nat.{ℕ, zero, suc, _+_, _≤_, _<_, min}
 use native.Mathlib.Nat.{not-suc-le-zero, le-of-suc-le-suc}
@@ -9,6 +9,7 @@ use lib.ListN.{length, getD, take, set, length-set, replicate}
 use lib.Seq.{set-getD}
 use Rattle.utils.specs.Draw.{Draw, ret, ask, Ran, run, _>>=_}
 use Rattle.utils.specs.Frames.{frames, scan, over, numbers, upTo}
+pub use Rattle.utils.specs.Frames.{after}
 use Rattle.utils.proofs.Draw.{run-then, bind-same, bind-assoc, Always, always-run, always-bind, Draws, draws-bind, draws-then}
 
 -- ---- the frame at i, and a loop of one frame more
@@ -73,12 +74,7 @@ module _ {S A B : Type 0} (step : S → A → B → Draw (S × B)) (Good : S →
 
 -- ---- how many words a loop draws. What a step draws is told by a part g of the state that moves from frame to frame whatever the words are.
 
--- g after n frames, and the words of n frames
-module _ {G : Type 0} (go : G → G) where
-  abbrev pub after : ℕ → G → G
-  after zero g = g
-  after (suc n) g = after n (go g)
-
+-- `after` gives g after n frames, and `drawn` the words of n frames
 module _ {G : Type 0} (go : G → G) (count : G → ℕ) where
   abbrev pub drawn : ℕ → G → ℕ
   drawn zero g = 0
@@ -258,3 +254,24 @@ pub scan-one : {B : Type 0} (b : B) (ys : List B) → scan (λ (s : Unit {0}) (x
 unfolding scan
 scan-one b [] = refl
 scan-one b (y ∷ ys) = ap (λ (zs : List _). b ∷ zs) (scan-one b ys)
+
+-- ---- a loop that is not told its turns' numbers: a turn more
+one-turn-more : {G : Type 0} (go : G → G) (n : ℕ) (g : G) → after go (suc n) g ≡ go (after go n g)
+one-turn-more go zero g = refl
+one-turn-more go (suc n) g = one-turn-more go n (go g)
+
+pub after-turn : {G : Type 0} (go : G → G) (i : ℕ) (g₀ : G) {g g' : G} → g ≡ after go i g₀ → g' ≡ go g → g' ≡ after go (i + 1) g₀
+after-turn go i g₀ e h = h ∙ ap go e ∙ sym (one-turn-more go i g₀) ∙ ap (λ (n : ℕ). after go n g₀) (sym (add-one i))
+
+-- ---- two loops side by side: a relation of their states that a step keeps, with the same output, is kept by the loop, with the same output
+module _ {S T A B : Type 0} (R : S → T → Type 0) (f : S → A → B → S × B) (g : T → A → B → T × B)
+    (keeps : (s : S) (t : T) (a : A) (b : B) → R s t → R (f s a b .0) (g t a b .0) × (f s a b .1 ≡ g t a b .1)) where
+  pub scan-alike : (s : S) (t : T) (xs : List A) (ys : List B) → R s t
+      → R (scan f s xs ys .0) (scan g t xs ys .0) × (scan f s xs ys .1 ≡ scan g t xs ys .1)
+  unfolding scan
+  scan-alike s t [] ys r = (r, refl)
+  scan-alike s t (x ∷ xs) [] r = (r, refl)
+  scan-alike s t (x ∷ xs) (y ∷ ys) r =
+      let k = keeps s t x y r in
+      let q = scan-alike (f s x y .0) (g t x y .0) xs ys (k .0) in
+      (q .0, ap₂ (λ (z : B) (zs : List B). z ∷ zs) (k .1) (q .1))

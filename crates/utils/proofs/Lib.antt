@@ -1,6 +1,8 @@
 -- Laws that the proofs of this crate and of others cite.
 pub mod Draw
 pub mod Frames
+pub mod Tab
+pub mod Exchange
 pub mod Part
 pub mod Words
 pub mod Rounding
@@ -10,3 +12,4 @@ pub mod Pitches
 pub mod DelayLine
 pub mod Constants
 pub mod Increments
+pub mod Feed

@@ -35,8 +35,14 @@ c0·025 = ofBits binary32 0x3ccccccd
 abbrev pub c0·06 : Float
 c0·06 = ofBits binary32 0x3d75c28f
 
+abbrev pub c0·08 : Float
+c0·08 = ofBits binary32 0x3da3d70a
+
 abbrev pub c0·1 : Float
 c0·1 = ofBits binary32 0x3dcccccd
+
+abbrev pub c0·12 : Float
+c0·12 = ofBits binary32 0x3df5c28f
 
 abbrev pub c0·15 : Float
 c0·15 = ofBits binary32 0x3e19999a
@@ -52,6 +58,9 @@ c0·25 = ofBits binary32 0x3e800000
 
 abbrev pub c0·26 : Float
 c0·26 = ofBits binary32 0x3e851eb8
+
+abbrev pub c0·3 : Float
+c0·3 = ofBits binary32 0x3e99999a
 
 abbrev pub c0·308 : Float
 c0·308 = ofBits binary32 0x3e9db22d
@@ -71,14 +80,26 @@ c0·5 = ofBits binary32 0x3f000000
 abbrev pub c0·618 : Float
 c0·618 = ofBits binary32 0x3f1e353f
 
+abbrev pub c0·7 : Float
+c0·7 = ofBits binary32 0x3f333333
+
 abbrev pub c0·75 : Float
 c0·75 = ofBits binary32 0x3f400000
+
+abbrev pub c0·85 : Float
+c0·85 = ofBits binary32 0x3f59999a
+
+abbrev pub c0·93 : Float
+c0·93 = ofBits binary32 0x3f6e147b
 
 abbrev pub c0·94 : Float
 c0·94 = ofBits binary32 0x3f70a3d7
 
 abbrev pub c0·95 : Float
 c0·95 = ofBits binary32 0x3f733333
+
+abbrev pub c0·98 : Float
+c0·98 = ofBits binary32 0x3f7ae148
 
 abbrev pub c0·9999 : Float
 c0·9999 = ofBits binary32 0x3f7ff972
@@ -100,6 +121,9 @@ c2 = ofBits binary32 0x40000000
 
 abbrev pub c2·1 : Float
 c2·1 = ofBits binary32 0x40066666
+
+abbrev pub c3 : Float
+c3 = ofBits binary32 0x40400000
 
 abbrev pub c4 : Float
 c4 = ofBits binary32 0x40800000
@@ -125,6 +149,9 @@ c20 = ofBits binary32 0x41a00000
 abbrev pub c24 : Float
 c24 = ofBits binary32 0x41c00000
 
+abbrev pub c36 : Float
+c36 = ofBits binary32 0x42100000
+
 abbrev pub c60 : Float
 c60 = ofBits binary32 0x42700000
 
@@ -133,6 +160,9 @@ c64 = ofBits binary32 0x42800000
 
 abbrev pub c72 : Float
 c72 = ofBits binary32 0x42900000
+
+abbrev pub c79·7 : Float
+c79·7 = ofBits binary32 0x429f6666
 
 abbrev pub c84 : Float
 c84 = ofBits binary32 0x42a80000
@@ -151,6 +181,9 @@ c255 = ofBits binary32 0x437f0000
 
 abbrev pub c256 : Float
 c256 = ofBits binary32 0x43800000
+
+abbrev pub c500 : Float
+c500 = ofBits binary32 0x43fa0000
 
 abbrev pub c1020 : Float
 c1020 = ofBits binary32 0x447f0000

@@ -1,0 +1,8 @@
+-- Laws that the proofs of this crate and of others cite.
+pub mod Frame
+pub mod OnePass
+pub mod Excitations
+pub mod Halves
+pub mod Drawn
+pub mod Held
+pub mod OneLoop

@@ -1,0 +1,133 @@
+-- One loop over the frames is the excitation filter, then aux, then the modes: laws over plain values. Assumes nothing.
+use mathlib.Core.Path.{_≡_, refl, sym, _∙_, ap}
+use mathlib.Core.Bool.{Bool}
+use mathlib.Core.List.{List}
+use Prim.Native.Nat.{ℕ, _*_, _^_, _<_}
+use borrow.Author.Tests.{lt-ltb}
+use lib.ListN.{getD, length}
+use lib.Ieee.{Float, nan}
+use Rattle.utils.specs.F32.{_⊕_, c1}
+use Rattle.utils.specs.Draw.{run}
+use Rattle.utils.specs.Frames.{scan}
+use Rattle.utils.proofs.Feed.{fill, feeding, feed}
+use Rattle.noise.specs.declared.excitation.Knobs.{Knobs}
+use Rattle.noise.specs.declared.excitation.Counts.{Counts}
+use Rattle.noise.specs.Excitation.{raised, addStep, added}
+use Rattle.modal_voice.specs.declared.resonator.ResonatorSvf.{ResonatorSvf}
+use Rattle.modal_voice.specs.declared.resonator.Batch.{Batch}
+use Rattle.modal_voice.specs.declared.resonator.Mode.{Mode}
+use Rattle.modal_voice.specs.declared.resonator.Modes.{Modes}
+use Rattle.modal_voice.specs.declared.resonator.States.{States}
+use Rattle.modal_voice.specs.declared.modal_voice.Ahead.{Ahead}
+use Rattle.modal_voice.specs.declared.modal_voice.ModalVoice.{ModalVoice}
+use Rattle.modal_voice.specs.Resonator.{modeOf, lowStep, lowBlock}
+use Rattle.modal_voice.specs.OnePass.{modesFor, statesOf, filtersOf, frameOf, onePass}
+use Rattle.modal_voice.specs.ModalVoice.{cutoffFor, resonanceFor, excitation, heldAfter, excitationWords, excitationCounts, renderOf}
+use Rattle.modal_voice.specs.OneLoop.{Framed, framesOf, aheadOf}
+use Rattle.modal_voice.proofs.OnePass.{processed}
+use Rattle.modal_voice.proofs.Halves.{excited, sounded, rendered}
+
+-- a sample through the excitation filter
+abbrev pub lowOf : Mode → ResonatorSvf → Float → ResonatorSvf × Float
+lowOf k s x = lowStep k s x nan
+
+-- a block of n frames
+pub record Block (temp temp2 out aux : List Float) (n : ℕ) : Type 0 where
+  pub all : n ≡ length temp
+  pub temp2-size : length temp2 ≡ n
+  pub out-size : length out ≡ n
+  pub aux-size : length aux ≡ n
+  pub small : n * 4 < 2 ^ 63
+
+-- at a frame of the block the filter ahead is the filter's step there
+pub at-frame : {a : Ahead} (k : Mode) (s : ResonatorSvf) (xs : List Float) (i : ℕ) → a ≡ aheadOf k s xs i → i < length xs
+    → _≡_ {A = ResonatorSvf × Float} (a .svf, a .x) (lowOf k s (getD xs i nan))
+unfolding aheadOf
+at-frame k s xs i e l = ap (λ (a : Ahead). (a .svf, a .x)) (e ∙ rw (lt-ltb i (length xs) l))
+
+-- what the frame leaves in aux, and in out
+module _ (k : Mode) (s : ResonatorSvf) (t y : Float) {svf : ResonatorSvf} {x : Float} (e : _≡_ {A = ResonatorSvf × Float} (svf, x) (lowOf k s t)) where
+  pub aux-frame : _≡_ {A = (ResonatorSvf × Unit {0}) × Float} ((svf, tt), y ⊕ x) (feeding (lowOf k) addStep (s, tt) t y)
+  aux-frame = λ j. ((e j .0, tt), y ⊕ e j .1)
+
+  pub out-frame : (m : Modes) (w : List Float × List Float) {v : List Float × List Float} {z : Float}
+      → _≡_ {A = (List Float × List Float) × Float} (v, z) (frameOf m w x y)
+      → _≡_ {A = (ResonatorSvf × (List Float × List Float)) × Float} ((svf, v), z) (feeding (lowOf k) (frameOf m) (s, w) t y)
+  out-frame m w {v} {z} f =
+      let q = f ∙ ap (λ (x : Float). frameOf m w x y) (ap (λ (u : ResonatorSvf × Float). u .1) e) in
+      λ j. ((e j .0, q j .0), q j .1)
+
+-- what stands at the loop's end
+pub all-frames : (k : Mode) (s : ResonatorSvf) (m : Modes) (fs : List Batch) (temp temp2 out aux : List Float)
+    {z : ResonatorSvf} {u : States} {one two temp2' out' aux' : List Float} {gs : List Batch} → length temp2 ≡ length temp
+    → u ≡ statesOf fs
+    → _≡_ {A = ResonatorSvf × List Float} (z, temp2') (scan (fill (lowOf k)) s temp temp2)
+    → _≡_ {A = (ResonatorSvf × Unit {0}) × List Float} ((z, tt), aux') (scan (feeding (lowOf k) addStep) (s, tt) temp aux)
+    → _≡_ {A = (ResonatorSvf × (List Float × List Float)) × List Float}
+    ((z, (one, two)), out')
+    (scan (feeding (lowOf k) (frameOf m)) (s, (u .«state_1», u .«state_2»)) temp out)
+    → gs ≡ filtersOf one two
+    → _≡_ {A = Framed} (record { filter = z; «mode_filters» = gs; temp2 = temp2'; out = out'; aux = aux' }) (framesOf k s m fs temp temp2 out aux)
+unfolding framesOf onePass lowBlock
+all-frames k s m fs temp temp2 out aux {z} {u} {one} {two} {temp2'} {out'} {aux'} {gs} h es et ea eo eg =
+    let w : List Float × List Float = (u .«state_1», u .«state_2») in
+    let ha =
+    ap (λ (q : (ResonatorSvf × Unit {0}) × List Float). q .1) ea
+    ∙ sym (ap (λ (q : Unit {0} × List Float). q .1) (feed (lowOf k) addStep s tt temp temp2 aux h)) in
+    let ho =
+    ap (λ (q : (ResonatorSvf × (List Float × List Float)) × List Float). (q .0 .1, q .1)) eo
+    ∙ sym (feed (lowOf k) (frameOf m) s w temp temp2 out h)
+    ∙ ap (λ (v : States). scan (frameOf m) (v .«state_1», v .«state_2») (scan (fill (lowOf k)) s temp temp2 .1) out) es in
+    let hg = eg ∙ ap (λ (q : (List Float × List Float) × List Float). filtersOf (q .0 .0) (q .0 .1)) ho in
+    λ j. record { filter = et j .0; «mode_filters» = hg j; temp2 = et j .1; out = ho j .1; aux = ha j }
+
+-- ---- what the loop leaves, as the halves leave it
+module _ (k : Mode) (s : ResonatorSvf) (m : Modes) (fs : List Batch) (temp temp2 out aux : List Float)
+    {z : ResonatorSvf} {temp2' out' aux' : List Float} {gs : List Batch}
+    (e : _≡_ {A = Framed} (record { filter = z; «mode_filters» = gs; temp2 = temp2'; out = out'; aux = aux' }) (framesOf k s m fs temp temp2 out aux)) where
+  pub filtered : _≡_ {A = ResonatorSvf × List Float} (z, temp2') (lowBlock k s temp temp2)
+  unfolding framesOf
+  filtered = ap (λ (f : Framed). (f .filter, f .temp2)) e
+
+  pub mixed : aux' ≡ added temp2' aux
+  unfolding framesOf
+  mixed = ap (λ (f : Framed). f .aux) e ∙ ap (λ (q : ResonatorSvf × List Float). added (q .1) aux) (sym filtered)
+
+  pub passed : _≡_ {A = List Batch × List Float} (gs, out') (onePass m fs temp2' out)
+  unfolding framesOf
+  passed = ap (λ (f : Framed). (f .«mode_filters», f .out)) e ∙ ap (λ (q : ResonatorSvf × List Float). onePass m fs (q .1) out) (sym filtered)
+
+-- ---- the render
+module _ (k : Knobs) (v : ModalVoice) (temp temp2 out aux : List Float) (word : ℕ) where
+  pub together : {cutoff q b d : Float} {held : Bool} {w : ℕ} {mode : Mode} {modes : Modes} {filter : ResonatorSvf} {gs : List Batch} {temp' temp2' out' aux' : List Float} {counts : Counts}
+      → length (v .resonator .«mode_filters») ≡ 6
+      → cutoff ≡ cutoffFor k → q ≡ resonanceFor k → held ≡ heldAfter k (v .held) (length temp)
+      → run (excitation (k .sustain) k (v .held) cutoff temp) word ≡ record { value = temp'; word = w }
+      → mode ≡ modeOf cutoff q c1
+      → b ≡ raised (k .accent) (k .brightness) → d ≡ raised (k .accent) (k .damping)
+      → modes ≡ modesFor (v .resonator .«mode_amplitude») (k .f0) (k .structure) b d
+      → _≡_ {A = Framed} (record { filter = filter; «mode_filters» = gs; temp2 = temp2'; out = out'; aux = aux' })
+      (framesOf mode (v .«excitation_filter») modes (v .resonator .«mode_filters») temp' temp2 out aux)
+      → counts ≡ excitationCounts (excitationWords (k .sustain) (length temp))
+      → run (renderOf k v temp temp2 out aux) word ≡ record {
+        value = record {
+          voice = record {
+            «excitation_filter» = filter;
+            resonator = record { «mode_amplitude» = v .resonator .«mode_amplitude»; «mode_filters» = gs };
+            held = held;
+          };
+          temp = temp';
+          temp2 = temp2';
+          out = out';
+          aux = aux';
+          counts = counts;
+        };
+        word = w;
+      }
+  together {b = b} {d = d} {held = held} {mode = mode} {modes = modes} {filter = filter} {temp' = temp'} {temp2' = temp2'} h ec eq eh et em eb ed es ef en =
+      let s = v .«excitation_filter» in
+      let fs = v .resonator .«mode_filters» in
+      let e : ModalVoice = record { «excitation_filter» = filter; resonator = v .resonator; held = held } in
+      rendered k v temp temp2 out aux word
+      (excited k v temp temp2 aux word ec eq eh et (filtered mode s modes fs temp' temp2 out aux ef ∙ ap (λ (m : Mode). lowBlock m s temp' temp2) em) (mixed mode s modes fs temp' temp2 out aux ef) en)
+      (sounded k e temp2' out eb ed (processed (v .resonator) (k .f0) (k .structure) b d temp2' out h es (passed mode s modes fs temp' temp2 out aux ef)))

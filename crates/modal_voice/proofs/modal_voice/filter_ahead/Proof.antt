@@ -1,0 +1,35 @@
+-- `modal_voice::filter_ahead` meets its contract.
+use mathlib.Core.Path.{_∙_, ap}
+use borrow.Author.Tests.{lt-ltb, le-ltb}
+use denote.Ref.{now}
+use lib.ListN.{length}
+use Rattle.utils.specs.F32.{_⊕_, _⊗_, c0}
+use Rattle.utils.specs.Frames.{scan}
+use Rattle.modal_voice.specs.declared.resonator.Ticked.{Ticked}
+use Rattle.modal_voice.specs.OneLoop.{aheadOf}
+use borrow.Author.Needs.{needs}
+use Rattle.modal_voice.proofs.modal_voice.filter_ahead.Statement.{statement}
+use Rattle.modal_voice.proofs.modal_voice.filter_ahead.Tie as tie
+
+mul-tick : tie.Need-mul-tick
+mul-tick c = search needs
+
+shared-slice-read-tick : tie.Need-shared-slice-read-tick
+shared-slice-read-tick c = search needs
+
+tick-requires : tie.Need-tick-requires
+tick-requires c κs = search needs
+
+returns : tie.Need-returns
+unfolding aheadOf scan
+returns c =
+    let a = c .before .before .before .before .before .before .before .args in
+    let e = lt-ltb (a .i) (length (now (a .temp))) (c .before .before .before .before .before .if1 .taken) in
+    ap (λ (t : Ticked). record { svf = t .svf; x = c0 ⊕ a .k .gain ⊗ t .lp }) (c .before .before .before .tick .ensures) ∙ rw e
+
+returns-2 : tie.Need-returns-2
+unfolding aheadOf
+returns-2 c = let a = c .before .before .args in rw (le-ltb (a .i) (length (now (a .temp))) (c .if1 .left))
+
+pub filter-ahead-spec : {M : Type 1} → statement M
+filter-ahead-spec = tie.close (tie.spec mul-tick shared-slice-read-tick tick-requires returns returns-2)

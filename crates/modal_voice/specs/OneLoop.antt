@@ -1,0 +1,42 @@
+-- Both halves' loops of a render as one: the excitation filter a frame ahead of the modes. Assumes nothing.
+use mathlib.Core.Path.{_≡_}
+use mathlib.Core.Bool.{cond}
+use mathlib.Core.List.{List}
+use Prim.Native.Nat.{ℕ}
+use lib.Dec.{ltb}
+use lib.ListN.{length, getD}
+use lib.Ieee.{Float, nan}
+use Rattle.utils.specs.F32.{c0}
+use Rattle.noise.specs.Excitation.{added}
+use Rattle.modal_voice.specs.declared.resonator.ResonatorSvf.{ResonatorSvf}
+use Rattle.modal_voice.specs.declared.resonator.Batch.{Batch}
+use Rattle.modal_voice.specs.declared.resonator.Mode.{Mode}
+use Rattle.modal_voice.specs.declared.resonator.Modes.{Modes}
+use Rattle.modal_voice.specs.declared.modal_voice.Ahead.{Ahead}
+use Rattle.modal_voice.specs.Resonator.{lowStep, lowBlock}
+use Rattle.modal_voice.specs.OnePass.{onePass}
+
+-- the buffers have one length
+pub record Alike (temp temp2 out aux : List Float) : Type 0 where
+  pub temp2-is : length temp2 ≡ length temp
+  pub out-is : length out ≡ length temp
+  pub aux-is : length aux ≡ length temp
+
+-- what the loop leaves
+pub record Framed : Type 0 where
+  pub filter : ResonatorSvf
+  pub «mode_filters» : List Batch
+  pub temp2 : List Float
+  pub out : List Float
+  pub aux : List Float
+
+-- the filter, the mix into aux, and the modes, one after the other
+unfoldable pub framesOf : Mode → ResonatorSvf → Modes → List Batch → List Float → List Float → List Float → List Float → Framed
+framesOf k s m fs temp temp2 out aux =
+    let e = lowBlock k s temp temp2 in
+    let p = onePass m fs (e .1) out in
+    record { filter = e .0; «mode_filters» = p .0; temp2 = e .1; out = p .1; aux = added (e .1) aux }
+
+-- the filter past the frame i; past the last it stands as it is
+unfoldable pub aheadOf : Mode → ResonatorSvf → List Float → ℕ → Ahead
+aheadOf k s xs i = cond (ltb i (length xs)) (let u = lowStep k s (getD xs i nan) nan in record { svf = u .0; x = u .1 }) (record { svf = s; x = c0 })

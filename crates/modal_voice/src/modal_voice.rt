@@ -1,0 +1,344 @@
+// Simple modal synthesis voice with a mallet exciter: click -> LPF -> resonator. With sustain the click is replaced by dust.
+ghost use mathlib.Core.Path.{_≡_};
+ghost use mathlib.Core.Bool.{cond};
+ghost use Rattle.utils.specs.F32.{_⊗_, c0·7, c1·5, c2, c4, c36, c60};
+ghost use Rattle.utils.specs.Draw.{ret, run, Ran};
+ghost use Rattle.modal_voice.specs.OneLoop.{Alike, Framed, framesOf, aheadOf};
+ghost use Rattle.modal_voice.specs.ModalVoice.{voiceNew, voiceInit, cutoffFor, strikeOf, clicked, excitation, heldAfter, excitationWords, excitationCounts, Excited, exciteOf, Sounded, soundOf, After, renderOf};
+use crate::resonator::Batch;
+use crate::resonator::Mode;
+use crate::resonator::Modes;
+use crate::resonator::Resonator;
+use crate::resonator::ResonatorSvf;
+use noise::excitation::Counts;
+use noise::excitation::Knobs;
+
+// A voice. A strike on an empty block is held for the next block that has frames.
+pub struct ModalVoice {
+    pub excitation_filter: ResonatorSvf,
+    pub resonator: Resonator,
+    pub held: bool,
+}
+
+// A voice after a render or its first half, the generator's word, and the words drawn.
+pub struct Rendered {
+    pub voice: ModalVoice,
+    pub word: u32,
+    pub counts: Counts,
+}
+
+fn range(sustain: bool) -> f32
+    ensures { λ r. ⌜ r ≡ cond sustain c36 c60 ⌝ }
+{
+    if sustain {
+        return 36.0;
+    }
+    60.0
+}
+
+fn base(sustain: bool, f0: f32) -> f32
+    ensures { λ r. ⌜ r ≡ cond sustain (c4 ⊗ f0) (c2 ⊗ f0) ⌝ }
+{
+    if sustain {
+        return 4.0 * f0;
+    }
+    2.0 * f0
+}
+
+fn resonance(sustain: bool) -> f32
+    ensures { λ r. ⌜ r ≡ cond sustain c0·7 c1·5 ⌝ }
+{
+    if sustain {
+        return 0.7;
+    }
+    1.5
+}
+
+// The cutoff of the excitation filter.
+fn cutoff_for(k: Knobs) -> f32
+    ensures { λ r. ⌜ r ≡ cutoffFor k ⌝ }
+{
+    let brightness = noise::excitation::raise(k.accent, k.brightness);
+    let semitones = (brightness * (2.0 - brightness) - 0.5) * range(k.sustain);
+    let ratio = utils::units::semitones_to_ratio(semitones);
+    utils::floats::min(base(k.sustain, k.f0) * ratio, 0.499)
+}
+
+// The click of a strike.
+fn strike(accent: f32, damping: f32, cutoff: f32) -> f32
+    ensures { λ r. ⌜ r ≡ strikeOf accent damping cutoff ⌝ }
+{
+    let attenuation = 1.0 - damping * 0.5;
+    let amplitude = (0.12 + 0.08 * accent) * attenuation;
+    amplitude * utils::units::semitones_to_ratio(cutoff * cutoff * 24.0) / cutoff
+}
+
+// Silence, and a click in its first frame where a strike sounds.
+fn fill_click(k: Knobs, held: bool, cutoff: f32, temp: &mut [f32])
+    ensures { λ _. ⌜ now (temp .exit) ≡ clicked k held cutoff (now (temp .entry)) ⌝ }
+{
+    let n = temp.len();
+    utils::delay_line::reset(temp);
+    if !(k.trigger | held) {
+        return;
+    }
+    if n == 0 {
+        return;
+    }
+    let damping = noise::excitation::raise(k.accent, k.damping);
+    temp[0] = strike(k.accent, damping, cutoff);
+}
+
+// Dust where the voice is sustained; else the click.
+fn fill_excitation(k: Knobs, held: bool, cutoff: f32, temp: &mut [f32], word: u32) -> u32
+    ensures { λ r. ⌜ run (excitation (k .sustain) k held cutoff (now (temp .entry))) word ≡ record { value = now (temp .exit); word = r } ⌝ }
+{
+    if k.sustain {
+        let f = noise::excitation::dust_frequency(k.brightness);
+        return noise::excitation::fill_dust(f, 4.0 - f * 3.0, k.accent, temp, word);
+    }
+    fill_click(k, held, cutoff, temp);
+    word
+}
+
+// Whether a strike is held after a block of n.
+fn held_after(k: Knobs, held: bool, n: usize) -> bool
+    ensures { λ r. ⌜ r ≡ heldAfter k held n ⌝ }
+{
+    if n > 0 {
+        return false;
+    }
+    held | (k.trigger & !k.sustain)
+}
+
+// The words of the excitation of n frames.
+fn counts_of(sustain: bool, n: usize) -> Counts
+    ensures { λ r. ⌜ r ≡ excitationCounts (excitationWords sustain n) ⌝ }
+{
+    if sustain {
+        return Counts {
+            burst: 0,
+            dust: n,
+            dispersion: 0,
+        };
+    }
+    Counts {
+        burst: 0,
+        dust: 0,
+        dispersion: 0,
+    }
+}
+
+// The excitation filter after a frame, and what it gave there.
+pub struct Ahead {
+    pub svf: ResonatorSvf,
+    pub x: f32,
+}
+
+// Both filters after a block.
+pub struct Filtered {
+    pub filter: ResonatorSvf,
+    pub mode_filters: [Batch; 6],
+}
+
+// The excitation filter past the frame i; past the last frame it stands as it is.
+fn filter_ahead(k: Mode, s: ResonatorSvf, temp: &[f32], i: usize) -> Ahead
+    ensures { λ r. ⌜ r ≡ aheadOf k s (now (temp .entry)) i ⌝ }
+{
+    if i < temp.len() {
+        let t = crate::resonator::tick(k, s, temp[i]);
+        let svf = t.svf;
+        return Ahead {
+            svf,
+            x: 0.0 + k.gain * t.lp,
+        };
+    }
+    Ahead { svf: s, x: 0.0 }
+}
+
+// Both halves' loops as one. The excitation filter is a frame ahead of the modes, so that neither waits for the other.
+fn sound_frames(
+    k: Mode,
+    s: ResonatorSvf,
+    m: Modes,
+    mode_filters: [Batch; 6],
+    temp: &[f32],
+    temp_2: &mut [f32],
+    out: &mut [f32],
+    aux: &mut [f32],
+) -> Filtered
+    requires { ⌜ Alike (now temp) (now «temp_2») (now out) (now aux) ⌝ }
+    ensures { λ r. ⌜ record { filter = r .filter; «mode_filters» = r .«mode_filters»; temp2 = now («temp_2» .exit); out = now (out .exit); aux = now (aux .exit) } ≡ framesOf k s m «mode_filters» (now (temp .entry)) (now («temp_2» .entry)) (now (out .entry)) (now (aux .entry)) ⌝ }
+{
+    let g = m.g;
+    let r_plus_g = m.r_plus_g;
+    let h = m.h;
+    let gain = m.gain;
+    let states = crate::resonator::states_of(mode_filters);
+    let mut state_1 = states.state_1;
+    let mut state_2 = states.state_2;
+    let mut bands = [0.0f32; 24];
+    let n = temp.len();
+    let mut filter = s;
+    let mut ahead = filter_ahead(k, filter, temp, 0);
+    let mut i = 0;
+    while i < n {
+        let x = ahead.x;
+        filter = ahead.svf;
+        ahead = filter_ahead(k, filter, temp, i + 1);
+        temp_2[i] = x;
+        aux[i] += x;
+        crate::resonator::tick_all(
+            &g,
+            &r_plus_g,
+            &h,
+            &gain,
+            &mut state_1,
+            &mut state_2,
+            &mut bands,
+            x,
+        );
+        out[i] = crate::resonator::add_batches(out[i], &bands);
+        i += 1;
+    }
+    let after = crate::resonator::filters_of(&state_1, &state_2);
+    Filtered {
+        filter,
+        mode_filters: after,
+    }
+}
+
+impl ModalVoice {
+    pub fn new() -> ModalVoice
+        ensures { λ r. ⌜ r ≡ voiceNew ⌝ }
+    {
+        let excitation_filter = ResonatorSvf::new();
+        let resonator = Resonator::new();
+        ModalVoice {
+            excitation_filter,
+            resonator,
+            held: false,
+        }
+    }
+
+    pub fn init(self) -> ModalVoice
+        ensures { λ r. ⌜ r ≡ voiceInit self ⌝ }
+    {
+        let excitation_filter = ResonatorSvf::new();
+        let before = self.resonator;
+        let resonator = before.init(0.015);
+        ModalVoice {
+            excitation_filter,
+            resonator,
+            held: false,
+        }
+    }
+
+    // The first half of `render`: the excitation, its filter, and the mix into aux.
+    pub fn excite(
+        self,
+        k: Knobs,
+        temp: &mut [f32],
+        temp_2: &mut [f32],
+        aux: &mut [f32],
+        word: u32,
+    ) -> Rendered
+        ensures { λ r. ⌜ run (exciteOf k self (now (temp .entry)) (now («temp_2» .entry)) (now (aux .entry))) word ≡ record {
+          value = record { voice = r .voice; temp = now (temp .exit); temp2 = now («temp_2» .exit); aux = now (aux .exit); counts = r .counts };
+          word = r .word;
+        } ⌝ }
+    {
+        let cutoff = cutoff_for(k);
+        let q = resonance(k.sustain);
+        let before = self.held;
+        let held = held_after(k, before, temp.len());
+        let counts = counts_of(k.sustain, temp.len());
+        let drawn = fill_excitation(k, before, cutoff, temp, word);
+        let filter = self.excitation_filter;
+        let excitation_filter = filter.process_low(cutoff, q, 1.0, temp, temp_2);
+        noise::excitation::add_into(temp_2, aux);
+        let resonator = self.resonator;
+        let voice = ModalVoice {
+            excitation_filter,
+            resonator,
+            held,
+        };
+        Rendered {
+            voice,
+            word: drawn,
+            counts,
+        }
+    }
+
+    // The second half: the resonator from temp_2 into out. It draws no word.
+    pub fn sound(self, k: Knobs, temp_2: &[f32], out: &mut [f32]) -> ModalVoice
+        ensures { λ r. ⌜ soundOf k self (now («temp_2» .entry)) (now (out .entry)) ≡ ret record { voice = r; out = now (out .exit) } ⌝ }
+    {
+        let brightness = noise::excitation::raise(k.accent, k.brightness);
+        let damping = noise::excitation::raise(k.accent, k.damping);
+        let before = self.resonator;
+        let resonator = before.process(k.f0, k.structure, brightness, damping, temp_2, out);
+        let excitation_filter = self.excitation_filter;
+        ModalVoice {
+            excitation_filter,
+            resonator,
+            held: self.held,
+        }
+    }
+
+    // Both halves, their loops as one.
+    pub fn render(
+        self,
+        k: Knobs,
+        temp: &mut [f32],
+        temp_2: &mut [f32],
+        out: &mut [f32],
+        aux: &mut [f32],
+        word: u32,
+    ) -> Rendered
+        requires { ⌜ Alike (now temp) (now «temp_2») (now out) (now aux) ⌝ }
+        ensures { λ r. ⌜ run (renderOf k self (now (temp .entry)) (now («temp_2» .entry)) (now (out .entry)) (now (aux .entry))) word ≡ record {
+          value = record {
+            voice = r .voice;
+            temp = now (temp .exit);
+            temp2 = now («temp_2» .exit);
+            out = now (out .exit);
+            aux = now (aux .exit);
+            counts = r .counts;
+          };
+          word = r .word;
+        } ⌝ }
+    {
+        let cutoff = cutoff_for(k);
+        let q = resonance(k.sustain);
+        let before = self.held;
+        let held = held_after(k, before, temp.len());
+        let counts = counts_of(k.sustain, temp.len());
+        let drawn = fill_excitation(k, before, cutoff, temp, word);
+        let mode = crate::resonator::mode_of(cutoff, q, 1.0);
+        let brightness = noise::excitation::raise(k.accent, k.brightness);
+        let damping = noise::excitation::raise(k.accent, k.damping);
+        let resonator = self.resonator;
+        let amplitude = resonator.mode_amplitude;
+        let modes = crate::resonator::modes_for(amplitude, k.f0, k.structure, brightness, damping);
+        let filter = self.excitation_filter;
+        let before_filters = resonator.mode_filters;
+        let s = sound_frames(mode, filter, modes, before_filters, temp, temp_2, out, aux);
+        let excitation_filter = s.filter;
+        let mode_filters = s.mode_filters;
+        let resonator = Resonator {
+            mode_amplitude: amplitude,
+            mode_filters,
+        };
+        let voice = ModalVoice {
+            excitation_filter,
+            resonator,
+            held,
+        };
+        Rendered {
+            voice,
+            word: drawn,
+            counts,
+        }
+    }
+}
