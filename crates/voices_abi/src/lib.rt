@@ -3,6 +3,8 @@ ghost use mathlib.Core.Path.{_≡_};
 ghost use Rattle.utils.specs.Draw.{run, Ran};
 ghost use Rattle.voices_abi.specs.Blocks.{alikeSizes};
 ghost use Rattle.voices_abi.specs.Strings.{sizesFit, blocksOf};
+ghost use Rattle.voices_abi.specs.Modals.{modalBlocks};
+use modal_voice::modal_voice::ModalVoice;
 use noise::excitation::Knobs;
 use string_voice::string_voice::StringVoice;
 
@@ -70,6 +72,60 @@ pub extern "C" fn strings_render(
     let mut i = 0;
     while i < blocks {
         let r = voice.render(k, lines, temp, temp_2, out, aux, drawn);
+        voice = r.voice;
+        drawn = r.word;
+        i += 1;
+    }
+    drawn
+}
+
+// The same of a new modal voice.
+#[no_mangle]
+pub extern "C" fn modals_render(
+    sustain: bool,
+    trigger: bool,
+    accent: f32,
+    f0: f32,
+    structure: f32,
+    brightness: f32,
+    damping: f32,
+    blocks: usize,
+    temp: &mut [f32],
+    temp_2: &mut [f32],
+    out: &mut [f32],
+    aux: &mut [f32],
+    word: u32,
+) -> u32
+    ensures { λ r. ⌜ run (modalBlocks (record {
+      sustain = sustain;
+      trigger = trigger;
+      accent = accent;
+      f0 = f0;
+      structure = structure;
+      brightness = brightness;
+      damping = damping;
+    }) blocks (now (temp .entry)) (now («temp_2» .entry)) (now (out .entry)) (now (aux .entry))) word ≡ record {
+      value = (now (temp .exit), (now («temp_2» .exit), (now (out .exit), now (aux .exit))));
+      word = r;
+    } ⌝ }
+{
+    if !alike(temp.len(), temp_2.len(), out.len(), aux.len()) {
+        return word;
+    }
+    let k = Knobs {
+        sustain,
+        trigger,
+        accent,
+        f0,
+        structure,
+        brightness,
+        damping,
+    };
+    let mut voice = ModalVoice::new().init();
+    let mut drawn = word;
+    let mut i = 0;
+    while i < blocks {
+        let r = voice.render(k, temp, temp_2, out, aux, drawn);
         voice = r.voice;
         drawn = r.word;
         i += 1;
