@@ -9,15 +9,16 @@ use lib.Dec.{T, ltb, leb, eqb, ltb→lt, lt→ltb, lit<}
 use lib.IntN.{ℤ, pos, negsuc}
 use lib.Pow.{pow-pos, pow-add}
 use lib.Ieee.{Float, nan, inf, fin, binary32, up, down, round, sub, mul, lt, le, fits, ofBits, ofInt, toUnsigned}
-use lib.Ieee.Fits.{ofInt-fits, down-pos, and-l, and-r}
+use lib.Ieee.Fits.{ofInt-fits, add-fits, down-pos, and-l, and-r}
 use lib.Ieee.Exact.{HasValue, round-exact}
 use lib.Ieee.Back.{round-whole, whole-unique}
 use lib.Ieee.Scale.{finite}
-use Rattle.utils.specs.F32.{_⊖_, _⊗_, c256}
+use Rattle.utils.specs.F32.{_⊕_, _⊖_, _⊗_, c128, c256}
 use Rattle.utils.specs.Floats.{wholePart, fractionOf}
+use Rattle.utils.specs.Units.{highIndex, lowIndex}
 use Rattle.bounds.proofs.Order.{zeroF, oneF, two64, le-refl-float, le-trans-float, not-le→le, AtMost, le→number, number→le, not-le→number, le-or, lt-of-le}
 use Rattle.bounds.proofs.Monotone.{over, near-mono, sub-near, sub-mono, mul-le}
-use Rattle.bounds.proofs.Bounds.{Between, inside, encloses, is-in, sub-in, mul-in, const-in, in-test}
+use Rattle.bounds.proofs.Bounds.{int, minus, Between, inside, encloses, is-in, add-in, sub-in, mul-in, const-in, in-test}
 
 -- ---- the whole part of what is at most n is at most n; of what is below n + 1 too
 zero-or : (b : Bool) (n c : ℕ) → n ≤ c → cond b n 0 ≤ c
@@ -222,3 +223,12 @@ low-index (fin s m e) f = elim (le-or zeroF (fin s m e) tt tt) [
   | inl h ↦ low-index-above (fractionOf (fin s m e)) (fraction-in (fin s m e) f h)
   | inr h ↦ omega (arith, low-index-zero (fin s m e) h)
 ]
+
+-- ---- the indices of semitones_to_ratio: of semitones from -36 to 108 none is above 236, and the low one, of any semitones, never above 255
+pub high-in : (semitones : Float) → Between (minus 36) semitones (int 108) → highIndex semitones ≤ 236
+unfolding highIndex encloses ofBits
+high-in semitones p = whole-at-most 236 (semitones ⊕ c128) (add-in p (const-in c128 tt) (int 92) (int 236) tt .most)
+
+pub low-in : (semitones : Float) → lowIndex semitones ≤ 255
+unfolding lowIndex
+low-in semitones = low-index (semitones ⊕ c128) (add-fits binary32 semitones c128)

@@ -1,4 +1,5 @@
 -- Laws that the proofs of this crate and of others cite.
+pub mod Ranges
 pub mod Frame
 pub mod OnePass
 pub mod Excitations

@@ -1,2 +1,3 @@
 -- Laws that other crates cite.
 pub mod Drawn
+pub mod Ranges

@@ -17,6 +17,7 @@ use Rattle.utils.proofs.Draw.{Draws, draws-bind, draws-then, counted-draws}
 use Rattle.utils.proofs.Frames.{Any, after, drawn, frames-draws-each, length-scan}
 use Rattle.noise.specs.declared.excitation.Counts.{Counts}
 use Rattle.noise.specs.Excitation.{raised, addStep}
+use Rattle.noise.proofs.Ranges.{Fundamental}
 use Rattle.string_voice.specs.declared.string.StringNonLinearity.{StringNonLinearity}
 use Rattle.string_voice.specs.declared.string.String.{String}
 use Rattle.noise.specs.declared.excitation.Knobs.{Knobs}
@@ -27,7 +28,7 @@ use Rattle.string_voice.proofs.Steps.{wrap, At}
 use Rattle.string_voice.proofs.Blocks.{ratioFor, strung-draws}
 use Rattle.string_voice.proofs.Excitations.{excitation-draws}
 use Rattle.string_voice.proofs.Halves.{struck-string}
-use Rattle.string_voice.proofs.Ranges.{Fundamental, left-in}
+use Rattle.string_voice.proofs.Ranges.{left-in}
 
 -- ---- the first half
 

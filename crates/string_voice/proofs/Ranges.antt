@@ -1,76 +1,20 @@
 -- What accepted knobs keep within bounds: no table index without a meaning is reached, left and the places. Assumes nothing.
-use mathlib.Core.Path.{_≡_}
-use mathlib.Core.Bool.{Bool, true, false, not, _&&_, cond}
-use mathlib.Core.List.{List, [], _∷_}
-use Prim.Native.Nat.{_+_, _≤_, _<_, zero-le}
-use native.Mathlib.Omega.{arith}
+use mathlib.Core.Bool.{Bool, true, false, not, cond}
+use Prim.Native.Nat.{_≤_, zero-le}
 use lib.Dec.{T}
-use denote.Floats.{passes}
-use lib.IntN.{negsuc}
-use lib.Ieee.{Float, nan, inf, fin, binary32, ofBits, le, lt, isNan, toUnsigned}
-use lib.Ieee.Fits.{add-fits}
-use Rattle.utils.specs.F32.{_⊕_, _⊖_, _⊗_, _⊘_, c0, c0·25, c0·5, c0·4999, c0·95, c1, c2, c12, c20, c24, c60, c72, c84, c128, c255}
+use lib.Ieee.{Float, nan, inf, fin, ofBits, le, lt, isNan, toUnsigned}
+use Rattle.utils.specs.F32.{_⊕_, _⊖_, _⊗_, _⊘_, c0, c0·4999, c0·95, c1, c2, c12, c20, c24, c36, c60, c72, c84, c128, c255}
 use Rattle.utils.specs.Floats.{wholePart, clampF}
-use Rattle.utils.specs.Units.{highIndex, lowIndex}
-use Rattle.bounds.proofs.Order.{and-true}
-use Rattle.bounds.proofs.Bounds.{int, minus, part, Between, encloses, inside, sum, difference, product, quotient, is-in, const-in, widen, in-test, add-in, sub-in, mul-in, div-in, min-in, clamp-in, cond-in, finite-in, piece}
-use Rattle.bounds.proofs.Indices.{whole-at-most, low-index}
+use Rattle.utils.specs.Units.{highIndex}
+use Rattle.bounds.proofs.Bounds.{int, minus, part, Between, encloses, inside, is-in, const-in, widen, in-test, add-in, sub-in, mul-in, div-in, min-in, clamp-in}
+use Rattle.bounds.proofs.Indices.{whole-at-most, high-in}
 use Rattle.string_voice.specs.declared.string.Damping.{Damping}
 use Rattle.string_voice.specs.String.{cutoffOf, dampingF, dampingOf}
 use Rattle.noise.specs.Excitation.{raised}
+use Rattle.noise.proofs.Ranges.{Knob, Fundamental, raised-in, exciter-in}
 use Rattle.string_voice.specs.StringVoice.{exciterSemitones}
 
--- ---- an accepted knob and an accepted f0: from 0 to 1, and from 2^-20 to 0.5
-abbrev pub lowestF0 : Float
-lowestF0 = ofBits binary32 0x35800000
-
-abbrev pub Knob : Float → Type 0
-Knob x = Between c0 x c1
-
-abbrev pub Fundamental : Float → Type 0
-Fundamental f0 = Between lowestF0 f0 c0·5
-
-pub knob : (x : Float) → le c0 x ≡ true → le x c1 ≡ true → Knob x
-unfolding ofBits
-knob x h k = is-in c0 x c1 tt tt (passes (le c0 x) h) (passes (le x c1) k)
-
-pub fundamental : (f0 : Float) → le lowestF0 f0 ≡ true → le f0 c0·5 ≡ true → Fundamental f0
-unfolding ofBits
-fundamental f0 h k = is-in lowestF0 f0 c0·5 tt tt (passes (le lowestF0 f0) h) (passes (le f0 c0·5) k)
-
--- ---- raised knobs. x comes twice, so its range is cut at 1 - 2 ^ -k: with x from c to d, 1 - x is at most 1 - c
-unfoldable raises : Float → Float → Bool
-unfolding encloses ofBits
-raises c d =
-    let u = c1 ⊖ c in
-    let v = c0·25 ⊗ u in
-    encloses difference c1 c1 c d c0 u && (encloses product c0 c0·25 c0 u c0 v && encloses sum c d c0 v c0 c1)
-
-cuts : List Float
-cuts = part 1 0 ∷ part 3 1 ∷ part 7 2 ∷ part 15 3 ∷ part 31 4 ∷ part 63 5 ∷ part 127 6 ∷ part 255 7 ∷ part 511 8 ∷ part 1023 9 ∷ part 2047 10 ∷ part 4095 11 ∷ part 8191 12 ∷ part 16383 13 ∷ part 32767 14 ∷ part 65535 15 ∷ part 131071 16 ∷ part 262143 17 ∷ part 524287 18 ∷ part 1048575 19 ∷ part 2097151 20 ∷ part 4194303 21 ∷ part 8388607 22 ∷ part 16777215 23 ∷ c1 ∷ []
-
-pub raised-in : {accent x : Float} → Knob accent → Knob x → Knob (raised accent x)
-unfolding raised encloses raises cuts ofBits
-raised-in {accent} {x} a p =
-    let k = piece raises c0 cuts x p tt in
-    let u = c1 ⊖ k .from in
-    let v = c0·25 ⊗ u in
-    let t = and-true (encloses difference c1 c1 (k .from) (k .to) c0 u) (encloses product c0 c0·25 c0 u c0 v && encloses sum (k .from) (k .to) c0 v c0 c1) (k .passes) in
-    let s = and-true (encloses product c0 c0·25 c0 u c0 v) (encloses sum (k .from) (k .to) c0 v c0 c1) (t .1) in
-    let p₁ = mul-in (const-in c0·25 tt) a c0 c0·25 tt in
-    let p₂ = sub-in (const-in c1 tt) (k .bound) c0 u (t .0) in
-    let p₃ = mul-in p₁ p₂ c0 v (s .0) in
-    add-in (k .bound) p₃ c0 c1 (s .1)
-
 -- ---- the semitones of both calls of semitones_to_ratio
-pub exciter-in : {brightness : Float} → Knob brightness → Between (minus 36) (exciterSemitones brightness) (int 108)
-unfolding exciterSemitones encloses ofBits
-exciter-in b =
-    let p₁ = sub-in (const-in c2 tt) b c1 c2 tt in
-    let p₂ = mul-in b p₁ c0 c2 tt in
-    let p₃ = sub-in p₂ (const-in c0·5 tt) (fin true 1 (negsuc 0)) (part 3 0) tt in
-    mul-in p₃ (const-in c72 tt) (minus 36) (int 108) tt
-
 pub cutoff-in : {brightness damping : Float} → Knob brightness → Knob damping → Between c12 (cutoffOf brightness damping) c84
 unfolding cutoffOf encloses inside ofBits
 cutoff-in b d =
@@ -81,19 +25,11 @@ cutoff-in b d =
     let p₅ = add-in p₃ p₄ c12 (int 96) tt in
     min-in p₅ (in-test c12 c84 c84 tt)
 
--- of semitones from -36 to 108 no index is above 236, and the low one never above 255
-pub high-in : (semitones : Float) → Between (minus 36) semitones (int 108) → highIndex semitones ≤ 236
-unfolding highIndex encloses ofBits
-high-in semitones p = whole-at-most 236 (semitones ⊕ c128) (add-in p (const-in c128 tt) (int 92) (int 236) tt .most)
-
-pub low-in : (semitones : Float) → lowIndex semitones ≤ 255
-unfolding lowIndex
-low-in semitones = low-index (semitones ⊕ c128) (add-fits binary32 semitones c128)
-
 module _ (accent brightness : Float) (a : Knob accent) (b : Knob brightness) where
   -- the excitation's
   pub exciter-index : highIndex (exciterSemitones (raised accent brightness)) ≤ 236
-  exciter-index = high-in _ (exciter-in (raised-in a b))
+  unfolding exciterSemitones inside ofBits
+  exciter-index = high-in _ (exciter-in (raised-in a b) (in-test c36 c72 c72 tt))
 
   -- the damping's
   pub damping-index : (damping : Float) → Knob damping → highIndex (cutoffOf (raised accent brightness) (raised accent damping)) ≤ 236
