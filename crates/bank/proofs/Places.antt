@@ -1,0 +1,44 @@
+-- The eight slots and their parts of line memory. Assumes nothing.
+use mathlib.Core.Path.{_≡_, refl, sym, _∙_, ap, subst⁻¹}
+use mathlib.Core.List.{List, [], _∷_}
+use Prim.Native.Nat.{ℕ, zero, suc, _<_, _≤_, _+_, _-_, _*_}
+use native.Mathlib.Omega.{arith}
+use lib.ListN.{length, getD, take, drop, length-take, length-drop}
+use lib.Ieee.{Float}
+use Rattle.utils.specs.F32.{c0}
+use Rattle.bank.specs.declared.slots.Slot.{Slot}
+use Rattle.string_voice.specs.String.{Good}
+use Rattle.bank.specs.declared.slots.Bank.{Bank}
+use Rattle.bank.specs.Slots.{openedOn, slotAt}
+use Rattle.bank.specs.World.{Ready}
+
+-- an element does not turn on what stands past the end
+pub getD-any : {A : Type 0} (l : List A) (i : ℕ) (d e : A) → i < length l → getD l i d ≡ getD l i e
+getD-any [] i d e h = absurd (omega arith)
+getD-any (x ∷ xs) zero d e h = refl
+getD-any (x ∷ xs) (suc i) d e h = getD-any xs i d e (omega arith)
+
+-- an opening by the kind
+pub as-string : (kind : ℕ) (rate : Float) (lines : List Float) {q : Slot × List Float} → kind ≡ 1 → q ≡ openedOn 1 rate lines → q ≡ openedOn kind rate lines
+as-string kind rate lines h e = rw h e
+
+pub as-modal : (kind : ℕ) (rate : Float) (lines : List Float) {q : Slot × List Float} → 0 < kind → (kind ≡ 1 → ⊥) → q ≡ openedOn 2 c0 lines
+    → q ≡ openedOn kind rate lines
+as-modal zero rate lines l h e = absurd (omega arith)
+as-modal (suc zero) rate lines l h e = absurd (h refl)
+as-modal (suc (suc n)) rate lines l h e = e
+
+-- a kind that is 1, and one that is not where the kinds are 1 and 2
+pub kind-string : {x y : Slot} → x ≡ y → x .kind ≡ 1 → y .kind ≡ 1
+kind-string e h = sym (ap (λ (s : Slot). s .kind) e) ∙ h
+
+pub kind-modal : {x y : Slot} → x ≡ y → 0 < y .kind → y .kind ≤ 2 → (x .kind ≡ 1 → ⊥) → y .kind ≡ 2
+kind-modal {x} {y} e l u h = let k : x .kind ≡ y .kind = ap (λ (s : Slot). s .kind) e in omega arith
+
+-- a string's part of line memory and its places are good
+pub good-part : (b : Bank) (mem : List Float) (slot : ℕ) (out : List Float) (x : Slot) → x ≡ slotAt b slot → Ready b mem slot out
+    → Good (x .string .string, take (1280 * slot + 1280 - 1280 * slot) (drop (1280 * slot) mem))
+good-part b mem slot out x e r =
+    let s : slot < 8 = r .slot-in in
+    let l : length mem ≡ 10240 = r .size in
+    record { size = simp (length-take, length-drop) (omega arith); string = rw e (r .string); stretch = rw e (r .stretch) }

@@ -1,0 +1,5 @@
+pub mod answers;
+pub mod calls;
+pub mod generator;
+pub mod slots;
+pub mod table;

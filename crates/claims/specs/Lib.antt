@@ -1,0 +1,3 @@
+-- 01's ledger, and the claim about every list of calls.
+pub mod Ledger
+pub mod Claim

@@ -1,0 +1,1 @@
+// The ledger and the claim about every list of calls: laws alone, nothing to run.
