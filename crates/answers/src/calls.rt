@@ -1,5 +1,6 @@
 // A recorded call of any voice: the words that all voices have, how calls are read and compared, and what was compared so far.
 ghost use mathlib.Core.Path.{_≡_};
+ghost use Prim.Native.Nat.{_%_};
 ghost use lib.ListN.{length};
 ghost use Rattle.answers.specs.Counts.{Counts};
 use crate::draws;
@@ -48,7 +49,7 @@ pub fn knobs_of(row: [u32; 64]) -> Knobs {
 // The frames of a block, as a count of a buffer's.
 pub fn frames(word: u32, buffer: &[f32]) -> usize
     requires { ⌜ length (now buffer) ≡ 4096 ⌝ }
-    ensures { λ r. ⌜ Counts r (now (buffer .entry)) ⌝ }
+    ensures { λ r. ⌜ Counts r (now (buffer .entry)) × (r ≡ word % 4097) ⌝ }
 {
     words::index(word % 4097)
 }

@@ -10,7 +10,7 @@ index-requires : tie.Need-index-requires
 index-requires c κs = search needs
 
 returns : tie.Need-returns
-returns c = counts (c .index .result) (now (c .before .before .args .buffer)) (omega arith)
+returns c = (counts (c .index .result) (now (c .before .before .args .buffer)) (omega arith), omega arith)
 
 pub frames-spec : {M : Type 1} → statement M
 frames-spec = tie.close (tie.spec index-requires returns)
