@@ -1,5 +1,5 @@
 # make test: the whole gate, whose last line is 'N passed, 0 failed'.
-# make bench: the speed of the leaves and of the string voice beside the Rust's, as ratios.
+# make bench: the speed of the leaves and of both voices beside the Rust's, as ratios.
 # make record: the oracle's answers for the program replay, written anew.
 
 .PHONY: test bench record

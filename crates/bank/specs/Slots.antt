@@ -5,7 +5,6 @@ use lib.ListN.{length, getD, set, replicate}
 use lib.Ieee.{Float}
 use Rattle.utils.specs.F32.{c0}
 use Rattle.utils.specs.Filter.{svfNew, dcInit}
-use Rattle.string_voice.specs.declared.string.String.{String}
 use Rattle.string_voice.specs.declared.string_voice.StringVoice.{StringVoice}
 use Rattle.string_voice.specs.StringVoice as string
 use Rattle.modal_voice.specs.ModalVoice as modal

@@ -1,6 +1,12 @@
 // The one generator, lent to whichever voice is rendering.
 ghost use mathlib.Core.Path.{_≡_};
 ghost use Rattle.utils.specs.Draw.{next};
+ghost use Rattle.bank.specs.Calls.{Bufs, render};
+ghost use Rattle.bank.specs.Table.{Call};
+ghost use Rattle.bank.specs.World.{World, Left, leftOf, callDef};
+use crate::calls::Rendered;
+use crate::slots::Bank;
+use noise::excitation::Knobs;
 
 pub struct Generator {
     pub word: u32,
@@ -13,4 +19,39 @@ pub fn draw(generator: &mut Generator) -> u32
     let w = utils::random::get_word(generator.word);
     generator.word = w;
     w
+}
+
+// The word behind a render.
+fn word_of(rendered: Rendered) -> u32
+    ensures { λ r. ⌜ r ≡ rendered .word ⌝ }
+{
+    rendered.word
+}
+
+// `render`, with the generator lent.
+pub fn render_lent(
+    bank: Bank,
+    lines: &mut [f32],
+    generator: &mut Generator,
+    slot: usize,
+    k: Knobs,
+    temp: &mut [f32],
+    temp_2: &mut [f32],
+    out: &mut [f32],
+    aux: &mut [f32],
+) -> Rendered
+    ensures { λ r. ⌜ (leftOf (callDef (record { bank = bank; word = now (generator .entry) .word; mem = now (lines .entry) }) (record {
+      slot = slot;
+      act = render k (record { temp = now (temp .entry); temp2 = now («temp_2» .entry); out = now (out .entry); aux = now (aux .entry) });
+    })) ≡ record {
+      answer = r .answer;
+      after = record { bank = r .bank; word = r .word; mem = now (lines .exit) };
+      bufs = record { temp = now (temp .exit); temp2 = now («temp_2» .exit); out = now (out .exit); aux = now (aux .exit) };
+    }) × (now (generator .exit) .word ≡ r .word) ⌝ }
+{
+    let w = generator.word;
+    let r = crate::calls::render(bank, lines, w, slot, k, temp, temp_2, out, aux);
+    let next = word_of(r);
+    generator.word = next;
+    r
 }

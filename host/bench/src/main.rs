@@ -1,4 +1,4 @@
-//! Times the port's leaves beside the Rust's: both built for release, alternated in one run, the ratio of each pair taken.
+//! Times the port's leaves and voices beside the Rust's: both built for release, alternated in one run, the ratio of each pair taken.
 
 use std::process::ExitCode;
 
