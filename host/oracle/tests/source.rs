@@ -2,7 +2,7 @@
 
 #[cfg(no_plaits)]
 #[test]
-#[ignore = "the Rust source was not found; PLAITS_SRC names its folder"]
+#[ignore] // the Rust source was not found
 fn the_source_is_built() {}
 
 #[cfg(not(no_plaits))]

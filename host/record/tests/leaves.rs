@@ -22,7 +22,7 @@ fn the_recorded_file_is_well_formed() {
 
 #[cfg(no_plaits)]
 #[test]
-#[ignore = "the Rust source was not found; PLAITS_SRC names its folder"]
+#[ignore] // the Rust source was not found
 fn the_recorded_file_is_what_record_makes() {}
 
 #[cfg(not(no_plaits))]

@@ -34,7 +34,7 @@ fn extreme_floats_are_left() {
 
 #[cfg(no_plaits)]
 #[test]
-#[ignore = "the Rust source was not found; PLAITS_SRC names its folder"]
+#[ignore] // the Rust source was not found
 fn the_recorded_file_is_what_record_makes() {}
 
 #[cfg(not(no_plaits))]
