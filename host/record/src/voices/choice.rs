@@ -29,7 +29,7 @@ pub enum Play {
     Sustain,
     Both,
 }
-use Play::{Both, Sustain, Trigger};
+use Play::{Both, Free, Sustain, Trigger};
 
 /// Each number with the float below and the float above.
 pub fn around(numbers: &[f32]) -> Vec<f32> {
@@ -115,22 +115,36 @@ impl Choice {
     }
 
     /// An f0 whose bits are drawn, so that every octave is as likely.
-    pub fn any_pitch(&mut self) -> f32 {
+    fn any_pitch(&mut self) -> f32 {
         let [lowest, highest] = [LOWEST, 0.5].map(f32::to_bits);
         let above = self.draw() * (highest - lowest) as f32;
         f32::from_bits((lowest + above as u32).min(highest))
     }
 
     /// 0, 1 or, more often, a draw.
-    pub fn knob(&mut self) -> f32 {
+    fn knob(&mut self) -> f32 {
         let drawn = self.draw();
         self.pick(&[0.0, 1.0, drawn, drawn, drawn])
     }
 
     /// A length of a random block.
-    pub fn frames(&mut self) -> u32 {
+    fn frames(&mut self) -> u32 {
         let below = (self.draw() * 300.0) as u32;
         let frames = self.pick(&[below, below, below, 24, 64, 0, 1, 512]);
         if self.draw() < 0.02 { MOST_FRAMES } else { frames }
+    }
+
+    /// How a random block is played, its length and its knobs; a quarter of the pitches and three tenths of the structures are from the lists.
+    pub fn random_render(&mut self, pitches: &[f32], structures: &[f32]) -> (Play, u32, Knobs) {
+        let frames = self.frames();
+        let play = self.pick(&[Trigger, Sustain, Both, Free, Free]);
+        let f0 = match self.draw() {
+            u if u < 0.25 => self.pick(pitches),
+            u if u < 0.5 => LOWEST.max(0.5 * self.draw()),
+            _ => self.any_pitch(),
+        };
+        let structure = if self.draw() < 0.3 { self.pick(structures) } else { self.draw() };
+        let [accent, brightness, damping] = [0; 3].map(|_| self.knob());
+        (play, frames, Knobs { accent, f0, structure, brightness, damping })
     }
 }

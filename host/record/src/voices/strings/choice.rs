@@ -290,16 +290,7 @@ impl Strings {
         if self.0.draw() < 0.08 {
             return self.0.reset();
         }
-        let frames = self.0.frames();
-        let play = self.0.pick(&[Trigger, Sustain, Both, Free, Free]);
-        let f0 = match self.0.draw() {
-            u if u < 0.25 => self.0.pick(&pitches()),
-            u if u < 0.5 => LOWEST.max(0.5 * self.0.draw()),
-            _ => self.0.any_pitch(),
-        };
-        let structure =
-            if self.0.draw() < 0.3 { self.0.pick(&structures()) } else { self.0.draw() };
-        let [accent, brightness, damping] = [0; 3].map(|_| self.0.knob());
-        self.0.render(play, frames, Knobs { accent, f0, structure, brightness, damping });
+        let (play, frames, knobs) = self.0.random_render(&pitches(), &structures());
+        self.0.render(play, frames, knobs);
     }
 }
