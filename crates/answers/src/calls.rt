@@ -1,6 +1,6 @@
 // A recorded call of any voice: the words that all voices have, how calls are read and compared, and what was compared so far.
 ghost use mathlib.Core.Path.{_≡_};
-ghost use Prim.Native.Nat.{_%_};
+ghost use Prim.Native.Nat.{_+_, _≤_, _%_};
 ghost use lib.ListN.{length};
 ghost use Rattle.answers.specs.Counts.{Counts};
 use crate::draws;
@@ -23,15 +23,22 @@ pub fn no_row() -> [u32; 64] {
     [0xffff_ffff; 64]
 }
 
-// The inputs of a row, and no outputs.
-pub fn inputs_of(row: [u32; 64]) -> [u32; 64] {
-    let mut inputs = [0u32; 64];
+// The first n words of a row, and none after them.
+pub fn first_words(row: [u32; 64], n: usize) -> [u32; 64]
+    requires { ⌜ n ≤ 64 ⌝ }
+{
+    let mut words = [0u32; 64];
     let mut k = 0;
-    while k < 11 {
-        inputs[k] = row[k];
+    while k < n {
+        words[k] = row[k];
         k += 1;
     }
-    inputs
+    words
+}
+
+// The inputs of a voice's row, and no outputs.
+pub fn inputs_of(row: [u32; 64]) -> [u32; 64] {
+    first_words(row, 11)
 }
 
 pub fn knobs_of(row: [u32; 64]) -> Knobs {
@@ -73,17 +80,39 @@ pub fn fill(
     draws::fill(aux, seed(row, 3));
 }
 
-// A row with the first samples of a block.
-fn with_samples(row: [u32; 64], block: &[f32]) -> [u32; 64] {
+// A row with the first samples of a block from a place on.
+fn with_samples(row: [u32; 64], at: usize, block: &[f32]) -> [u32; 64]
+    requires { ⌜ at + 16 ≤ 64 ⌝ }
+{
     let mut out = row;
     let mut k = 0;
     while k < 16 {
         if k < block.len() {
-            out[41 + k] = pattern_of(block[k]);
+            out[at + k] = pattern_of(block[k]);
         }
         k += 1;
     }
     out
+}
+
+// A row with the digests of four buffers from a place on, and the first samples of out from another.
+pub fn with_buffers(
+    row: [u32; 64],
+    at: usize,
+    samples_at: usize,
+    temp: &[f32],
+    temp_2: &[f32],
+    out: &[f32],
+    aux: &[f32],
+) -> [u32; 64]
+    requires { ⌜ (at + 4 ≤ 64) × («samples_at» + 16 ≤ 64) ⌝ }
+{
+    let mut given = with_samples(row, samples_at, out);
+    given[at] = draws::digest_of_buffer(temp);
+    given[at + 1] = draws::digest_of_buffer(temp_2);
+    given[at + 2] = draws::digest_of_buffer(out);
+    given[at + 3] = draws::digest_of_buffer(aux);
+    given
 }
 
 // A row with a block's word and buffers.
@@ -95,24 +124,27 @@ pub fn with_block(
     out: &[f32],
     aux: &[f32],
 ) -> [u32; 64] {
-    let mut given = with_samples(row, out);
+    let mut given = with_buffers(row, 35, 41, temp, temp_2, out, aux);
     given[11] = word;
-    given[35] = draws::digest_of_buffer(temp);
-    given[36] = draws::digest_of_buffer(temp_2);
-    given[37] = draws::digest_of_buffer(out);
-    given[38] = draws::digest_of_buffer(aux);
     given
 }
 
-// A row with the digests of no buffers.
-pub fn with_no_block(row: [u32; 64]) -> [u32; 64] {
+// A row with the digests of no buffers from a place on.
+pub fn with_no_buffers(row: [u32; 64], at: usize) -> [u32; 64]
+    requires { ⌜ at + 4 ≤ 64 ⌝ }
+{
     let mut out = row;
     let d = draws::digest_begin();
-    out[35] = d;
-    out[36] = d;
-    out[37] = d;
-    out[38] = d;
+    out[at] = d;
+    out[at + 1] = d;
+    out[at + 2] = d;
+    out[at + 3] = d;
     out
+}
+
+// A voice's row with the digests of no buffers.
+pub fn with_no_block(row: [u32; 64]) -> [u32; 64] {
+    with_no_buffers(row, 35)
 }
 
 // What was read and compared so far.
@@ -177,36 +209,49 @@ fn compared(name: &[u8], number: u32, row: [u32; 64], other: [u32; 64], before: 
     differ
 }
 
-// 1 where a call is of the kind.
-fn one_of(row: [u32; 64], kind: u32) -> u32 {
-    if row[0] == kind {
-        return 1;
-    }
-    0
+// What a call adds to the sums.
+pub struct Adds {
+    pub sequences: u32,
+    pub blocks: u32,
+    pub samples: u32,
 }
 
-// The frames of a call.
-fn frames_of(row: [u32; 64]) -> u32 {
-    if row[0] == 2 {
-        return row[2];
+// What a voice's call adds: an opening begins a sequence, a render is a block.
+pub fn voice_adds(row: [u32; 64]) -> Adds {
+    match row[0] {
+        0 => Adds {
+            sequences: 1,
+            blocks: 0,
+            samples: 0,
+        },
+        2 => Adds {
+            sequences: 0,
+            blocks: 1,
+            samples: row[2],
+        },
+        _ => Adds {
+            sequences: 0,
+            blocks: 0,
+            samples: 0,
+        },
     }
-    0
 }
 
-// After a whole call of the voice of that name, compared with the row that making it again gave.
+// After a whole call of that name, compared with the row that making it again gave.
 pub fn after(
     name: &[u8],
     p: Progress,
     row: [u32; 64],
     other: [u32; 64],
+    adds: Adds,
     checksum: u32,
 ) -> Progress {
     let differ = compared(name, p.calls, row, other, p.differ);
     Progress {
         calls: std::num::wrapping_add_u32(p.calls, 1),
-        sequences: std::num::wrapping_add_u32(p.sequences, one_of(row, 0)),
-        blocks: std::num::wrapping_add_u32(p.blocks, one_of(row, 2)),
-        samples: std::num::wrapping_add_u32(p.samples, frames_of(row)),
+        sequences: std::num::wrapping_add_u32(p.sequences, adds.sequences),
+        blocks: std::num::wrapping_add_u32(p.blocks, adds.blocks),
+        samples: std::num::wrapping_add_u32(p.samples, adds.samples),
         differ: std::num::wrapping_add_u32(p.differ, differ),
         checksum,
         read: 256,

@@ -7,6 +7,7 @@ fn main() {
     leaves();
     strings();
     modals();
+    banks();
 }
 
 // The leaves, function by function.
@@ -32,6 +33,15 @@ fn modals() {
     let f = opened(b"modals.bin");
     if f.whole {
         modal_answers::replay(f.fd, f.stated, f.checksum);
+        libc::close(f.fd);
+    }
+}
+
+// The bank, list by list.
+fn banks() {
+    let f = opened(b"banks.bin");
+    if f.whole {
+        bank_answers::replay(f.fd, f.stated, f.checksum);
         libc::close(f.fd);
     }
 }

@@ -23,7 +23,8 @@ fn begin(checksum: u32) -> Replayed {
 fn after(p: Progress, row: [u32; 64], made: calls::Made, checksum: u32) -> Replayed {
     let voice = made.voice;
     let other = made.row;
-    let progress = answers::calls::after(b"string_voice", p, row, other, checksum);
+    let adds = answers::calls::voice_adds(row);
+    let progress = answers::calls::after(b"string_voice", p, row, other, adds, checksum);
     Replayed { voice, progress }
 }
 

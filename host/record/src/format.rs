@@ -76,6 +76,13 @@ pub fn header(name: &str, parts: &str, count: usize) -> String {
     format!("{line:<width$}\n", width = HEADER_BYTES - 1)
 }
 
+/// Says where a recorded file is not the one that was made, if anywhere.
+pub fn same(made: &[u8], recorded: &[u8]) -> Result<(), String> {
+    let place = made.iter().zip(recorded).take_while(|(a, b)| a == b).count();
+    let anew = "host/cargo run --release -p record makes the file anew";
+    (made == recorded).then_some(()).ok_or(format!("the files part at byte {place}; {anew}"))
+}
+
 fn leaves_header(records: usize) -> String {
     header("leaves", "records", records)
 }

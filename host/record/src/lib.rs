@@ -1,5 +1,6 @@
 //! The oracle's answers as a file of records; docs/RECORD.md is its description.
 
+pub mod banks;
 #[cfg(not(no_plaits))]
 pub mod check;
 pub mod draws;
@@ -8,6 +9,7 @@ pub mod format;
 pub mod functions;
 #[cfg(not(no_plaits))]
 mod raw;
+pub mod rows;
 #[cfg(not(no_plaits))]
 mod runs;
 pub mod voices;

@@ -26,9 +26,11 @@ fn main() -> ExitCode {
 fn write_all() -> Result<(), String> {
     use oracle::physical_modelling::{modal_voice::ModalVoice, string_voice::StringVoice};
     use record::voices::{format, modals, record, strings};
+    use record::{banks, rows};
     let leaves = record::leaves();
     let strings = record::<StringVoice>(&strings::sequences())?;
     let modals = record::<ModalVoice>(&modals::sequences())?;
+    let banks = banks::record(&banks::lists())?;
     let bytes = record::format::to_bytes(&leaves);
     write(&record::leaves_path(), &bytes)?;
     summary(&leaves);
@@ -39,6 +41,10 @@ fn write_all() -> Result<(), String> {
         println!("{}: {}", kind.name, recorded.summary());
         println!("{} calls, {} bytes", recorded.calls.len(), bytes.len());
     }
+    let bytes = rows::to_bytes(banks::NAME, &banks.rows);
+    write(&rows::path(banks::NAME), &bytes)?;
+    println!("{}: {}", banks::NAME, banks.summary());
+    println!("{} calls, {} bytes", banks.rows.len(), bytes.len());
     Ok(())
 }
 

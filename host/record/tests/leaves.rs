@@ -29,19 +29,12 @@ fn the_recorded_file_is_what_record_makes() {}
 mod beside_the_rust {
     use super::recorded;
     use record::check::{differences, stands};
-    use record::format::{HEADER_BYTES, Kind, RECORD_BYTES, Record, from_bytes, to_bytes};
+    use record::format::{HEADER_BYTES, Kind, RECORD_BYTES, Record, from_bytes, same, to_bytes};
     use record::functions::{FUNCTIONS, function};
 
     #[test]
     fn the_recorded_file_is_what_record_makes() {
-        let made = to_bytes(&record::leaves());
-        let recorded = recorded();
-        let same = made.iter().zip(&recorded).take_while(|(a, b)| a == b);
-        let place = same.count();
-        assert!(
-            made == recorded,
-            "the files part at byte {place}; host/cargo run --release -p record makes the file anew"
-        );
+        assert_eq!(same(&to_bytes(&record::leaves()), &recorded()), Ok(()));
     }
 
     #[test]

@@ -31,6 +31,14 @@ pub enum Play {
 }
 use Play::{Both, Free, Sustain, Trigger};
 
+/// A render of these knobs, with no frames, word and fill.
+pub fn asked(play: Play, knobs: Knobs) -> Render {
+    let Knobs { accent, f0, structure, brightness, damping } = knobs;
+    let (sustain, trigger) = (matches!(play, Sustain | Both), matches!(play, Trigger | Both));
+    let (frames, word, fill) = (0, 0, 0);
+    Render { sustain, trigger, frames, accent, f0, structure, brightness, damping, word, fill }
+}
+
 /// Each number with the float below and the float above.
 pub fn around(numbers: &[f32]) -> Vec<f32> {
     numbers.iter().flat_map(|x| [x.next_down(), *x, x.next_up()]).collect()
@@ -97,21 +105,7 @@ impl Choice {
     /// Renders with that word in the generator before it.
     pub fn render_from(&mut self, word: u32, play: Play, frames: u32, knobs: Knobs) {
         let fill = self.seed();
-        let Knobs { accent, f0, structure, brightness, damping } = knobs;
-        let sustain = matches!(play, Sustain | Both);
-        let trigger = matches!(play, Trigger | Both);
-        self.add(Given::Render(Render {
-            sustain,
-            trigger,
-            frames,
-            accent,
-            f0,
-            structure,
-            brightness,
-            damping,
-            word,
-            fill,
-        }));
+        self.add(Given::Render(Render { frames, word, fill, ..asked(play, knobs) }));
     }
 
     /// An f0 whose bits are drawn, so that every octave is as likely.

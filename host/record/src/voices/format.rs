@@ -1,10 +1,7 @@
-//! A file of sequences of one voice: a header line of 128 bytes, then calls of 64 little-endian words.
+//! A file of sequences of one voice, a call a row.
 
-use crate::format::{HEADER_BYTES, header};
-use std::path::{Path, PathBuf};
-
-pub const CALL_WORDS: usize = 64;
-pub const CALL_BYTES: usize = 4 * CALL_WORDS;
+use crate::rows::{self, ROW_WORDS, Row};
+use std::path::PathBuf;
 
 /// The words at the beginning of a call that say what it was given.
 pub const GIVEN_WORDS: usize = 11;
@@ -13,7 +10,7 @@ pub const GIVEN_WORDS: usize = 11;
 pub const MOST_FRAMES: u32 = 4096;
 
 /// The words of a call after those that it was given.
-pub type Left = [u32; CALL_WORDS - GIVEN_WORDS];
+pub type Left = [u32; ROW_WORDS - GIVEN_WORDS];
 
 /// What a render is given.
 #[derive(Debug, Clone, Copy)]
@@ -48,7 +45,7 @@ pub struct Call {
 }
 
 impl Render {
-    fn words(&self) -> [u32; GIVEN_WORDS] {
+    pub fn words(&self) -> [u32; GIVEN_WORDS] {
         let flags = u32::from(self.sustain) + 2 * u32::from(self.trigger);
         let [accent, f0] = [self.accent, self.f0].map(f32::to_bits);
         let knobs = [self.structure, self.brightness, self.damping].map(f32::to_bits);
@@ -117,14 +114,14 @@ impl Given {
 }
 
 impl Call {
-    pub fn words(&self) -> [u32; CALL_WORDS] {
-        let mut words = [0; CALL_WORDS];
+    pub fn words(&self) -> Row {
+        let mut words = [0; ROW_WORDS];
         words[..GIVEN_WORDS].copy_from_slice(&self.given.words());
         words[GIVEN_WORDS..].copy_from_slice(&self.left);
         words
     }
 
-    pub fn from_words(words: [u32; CALL_WORDS]) -> Result<Self, String> {
+    pub fn from_words(words: Row) -> Result<Self, String> {
         let given = Given::from_words(std::array::from_fn(|k| words[k]))?;
         Ok(Call { given, left: std::array::from_fn(|k| words[GIVEN_WORDS + k]) })
     }
@@ -144,10 +141,6 @@ pub const STRINGS: Kind = Kind { name: "strings", resets: true };
 pub const MODALS: Kind = Kind { name: "modals", resets: false };
 
 impl Kind {
-    fn header(&self, calls: usize) -> String {
-        header(self.name, "calls", calls)
-    }
-
     /// Whether a voice of the kind has the call.
     pub fn has(&self, given: &Given) -> bool {
         self.resets || !matches!(given, Given::Reset)
@@ -155,36 +148,20 @@ impl Kind {
 
     /// Where the file stands in the repository.
     pub fn path(&self) -> PathBuf {
-        let data = Path::new(env!("CARGO_MANIFEST_DIR")).join("../../crates/replay/data");
-        data.join(format!("{}.bin", self.name))
+        rows::path(self.name)
     }
 }
 
 /// The bytes of a file of these calls.
 pub fn to_bytes(kind: Kind, calls: &[Call]) -> Vec<u8> {
-    let mut bytes = kind.header(calls.len()).into_bytes();
-    let words = calls.iter().flat_map(Call::words);
-    bytes.extend(words.flat_map(u32::to_le_bytes));
-    bytes
+    let rows: Vec<Row> = calls.iter().map(Call::words).collect();
+    rows::to_bytes(kind.name, &rows)
 }
 
 /// The calls of a file, or what is wrong with it.
 pub fn from_bytes(kind: Kind, bytes: &[u8]) -> Result<Vec<Call>, String> {
-    let (head, body) =
-        bytes.split_at_checked(HEADER_BYTES).ok_or("the file is shorter than its header")?;
-    let (calls, rest) = body.as_chunks::<CALL_BYTES>();
-    if !rest.is_empty() {
-        return Err("the file ends within a call".into());
-    }
-    if head != kind.header(calls.len()).as_bytes() {
-        return Err("the header is not that of so many calls".into());
-    }
-    let words = |call: &[u8; CALL_BYTES]| {
-        let (words, _) = call.as_chunks();
-        std::array::from_fn(|k| u32::from_le_bytes(words[k]))
-    };
-    let calls: Vec<Call> =
-        calls.iter().map(|call| Call::from_words(words(call))).collect::<Result<_, _>>()?;
+    let rows = rows::from_bytes(kind.name, bytes)?;
+    let calls: Vec<Call> = rows.into_iter().map(Call::from_words).collect::<Result<_, _>>()?;
     if !calls.iter().all(|call| kind.has(&call.given)) {
         return Err(format!("{} have no reset", kind.name));
     }

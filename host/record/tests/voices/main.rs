@@ -4,7 +4,8 @@ mod modals;
 mod strings;
 
 use record::format::HEADER_BYTES;
-use record::voices::format::{CALL_BYTES, Call, Given, Kind, Render, from_bytes};
+use record::rows::ROW_BYTES;
+use record::voices::format::{Call, Given, Kind, Render, from_bytes};
 
 fn recorded(kind: Kind) -> Vec<u8> {
     std::fs::read(kind.path()).expect("the file of crates/replay/data is read")
@@ -78,9 +79,9 @@ fn what_is_no_file_of_calls_is_refused(kind: Kind) {
     let refused = |bytes: &[u8]| from_bytes(kind, bytes).is_err();
     assert!(refused(&bytes[..100]));
     assert!(refused(&bytes[..bytes.len() - 1]));
-    assert!(refused(&bytes[..bytes.len() - CALL_BYTES]));
+    assert!(refused(&bytes[..bytes.len() - ROW_BYTES]));
     let first_render = calls(kind).iter().position(|call| matches!(call.given, Given::Render(_)));
-    let at = HEADER_BYTES + CALL_BYTES * first_render.expect("a render");
+    let at = HEADER_BYTES + ROW_BYTES * first_render.expect("a render");
     // An unknown kind, an unknown flag, too many frames, a rate of a render, and knobs outside their ranges.
     for (word, value) in [
         (0, 3),
@@ -103,7 +104,9 @@ fn what_is_no_file_of_calls_is_refused(kind: Kind) {
 #[cfg(not(no_plaits))]
 mod beside_the_rust {
     use super::{calls, recorded};
-    use record::voices::format::{CALL_WORDS, Call, GIVEN_WORDS, Given, Render, to_bytes};
+    use record::format::same;
+    use record::rows::ROW_WORDS;
+    use record::voices::format::{Call, GIVEN_WORDS, Given, Render, to_bytes};
     use record::voices::player::Voice;
     use record::voices::{differences, record};
 
@@ -132,12 +135,7 @@ mod beside_the_rust {
 
     pub fn the_file_is_what_record_makes<V: Voice>(sequences: &[Vec<Given>]) {
         let made = to_bytes(V::KIND, &record::<V>(sequences).expect("no other halt").calls);
-        let recorded = recorded(V::KIND);
-        let place = made.iter().zip(&recorded).take_while(|(a, b)| a == b).count();
-        assert!(
-            made == recorded,
-            "the files part at byte {place}; host/cargo run --release -p record makes the file anew"
-        );
+        assert_eq!(same(&made, &recorded(V::KIND)), Ok(()));
     }
 
     /// The file stands, and a changed byte is one difference.
@@ -156,7 +154,7 @@ mod beside_the_rust {
         let calls = played::<V>(sequence);
         assert_eq!(differences::<V>(&to_bytes(V::KIND, &calls)), Ok(0));
         for call in 0..calls.len() {
-            for word in 0..CALL_WORDS - GIVEN_WORDS {
+            for word in 0..ROW_WORDS - GIVEN_WORDS {
                 let mut changed = calls.clone();
                 changed[call].left[word] ^= 1 << (word % 32);
                 let bytes = to_bytes(V::KIND, &changed);

@@ -5,10 +5,10 @@ use Rattle.answers.proofs.calls.with_samples.Statement.{statement}
 use Rattle.answers.proofs.calls.with_samples.Tie as tie
 
 abbrev Inv-loop : tie.InvT-loop
-Inv-loop block out₀ k₀ out k = k ≤ 16
+Inv-loop at block out₀ k₀ out k = k ≤ 16
 
 abbrev μ-loop : tie.MeasureT-loop
-μ-loop block out₀ k₀ out k = 16 - k
+μ-loop at block out₀ k₀ out k = 16 - k
 
 loop-holds : tie.Need-loop-holds Inv-loop μ-loop
 loop-holds c = search needs

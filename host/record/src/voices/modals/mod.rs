@@ -10,6 +10,27 @@ use oracle::physical_modelling::modal_voice::ModalVoice;
 
 pub use choice::sequences;
 
+/// How many numbers a modal voice keeps.
+pub const NUMBERS: usize = 75;
+
+/// Every number of a voice: no held strike, the amplitudes, the excitation filter, and batch after batch.
+pub fn record(voice: &ModalVoice) -> Vec<u32> {
+    let text = format!("{voice:?}");
+    let tree = Tree::read(&text);
+    let resonator = tree.field("resonator");
+    let mut numbers = resonator.field("mode_amplitude").floats();
+    let filters = resonator.field("mode_filters").items();
+    for filter in std::iter::once(tree.field("excitation_filter")).chain(filters) {
+        numbers.extend(both(filter).concat());
+    }
+    std::iter::once(0).chain(numbers.into_iter().map(canonical)).collect()
+}
+
+/// The first and the second states of a filter's modes.
+fn both(filter: &Tree) -> [Vec<f32>; 2] {
+    ["state_1", "state_2"].map(|name| filter.field(name).floats())
+}
+
 impl Voice for ModalVoice {
     const KIND: Kind = MODALS;
 
@@ -38,7 +59,6 @@ impl Voice for ModalVoice {
         let resonator = tree.field("resonator");
         let filters = resonator.field("mode_filters").items();
         let excitation = tree.field("excitation_filter");
-        let both = |filter: &Tree| ["state_1", "state_2"].map(|name| filter.field(name).floats());
         // No strike is held: the Rust has none.
         let mut words = vec![0, digest_of_buffer(&resonator.field("mode_amplitude").floats()), 0];
         for filter in [excitation, &filters[0], &filters[5]] {

@@ -12,6 +12,21 @@ pub use choice::sequences;
 
 const SVF: [&str; 5] = ["g", "r", "h", "state_1", "state_2"];
 
+/// How many numbers a string keeps beside its lines, and the place of the phase among them.
+pub const NUMBERS: usize = 23;
+pub const PHASE: usize = 19;
+
+/// The string line, and the stretch line after it.
+pub fn lines(voice: &StringVoice) -> Vec<f32> {
+    let text = format!("{voice:?}");
+    lines_of(&Tree::read(&text)).map(|line| line.field("line").floats()).concat()
+}
+
+fn lines_of<'a>(voice: &'a Tree) -> [&'a Tree<'a>; 2] {
+    let string = voice.field("string");
+    ["string", "stretch"].map(|name| string.field(name))
+}
+
 impl Voice for StringVoice {
     const KIND: Kind = STRINGS;
 
@@ -38,7 +53,7 @@ impl Voice for StringVoice {
         let text = format!("{self:?}");
         let tree = Tree::read(&text);
         let string = tree.field("string");
-        let lines = [string.field("string"), string.field("stretch")];
+        let lines = lines_of(&tree);
         let mut words = lines.map(|line| line.field("write_ptr").index() as u32).to_vec();
         words.push(tree.field("remaining_noise_samples").index() as u32);
         words.extend(numbers(tree.field("excitation_filter"), &SVF));
