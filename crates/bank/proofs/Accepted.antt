@@ -71,27 +71,33 @@ sound x e =
       left = ltb-false 1048576 (x .string .«remaining_noise_samples») (p .1);
     }
 
--- what numbers 1 and 2 leave
-pub record Begun (b : Bank) (mem : List Float) (slot kind : ℕ) (act : Act) : Type 0 where
+-- what number 1 leaves of a bank and of line memory
+pub record Whole (b : Bank) (mem : List Float) (slot : ℕ) : Type 0 where
   pub size : length mem ≡ 10240
   pub sound : Sound (slotAt b slot)
-  pub slot-in : slot < 8
-  pub rest : first (checks kind act) ≡ Accepted
 
-pub begun : (b : Bank) (mem : List Float) (slot kind : ℕ) (act : Act) → verdict (bad b mem) kind (record { slot = slot; act = act }) ≡ Accepted
-    → Begun b mem slot kind act
-unfolding verdict bad
-begun b mem slot kind act e =
-    let p = spared R.Memory (bad b mem) (R.NoSlot ⇐ ltb 7 slot ∷ checks kind act) e in
-    let q = spared R.NoSlot (ltb 7 slot) (checks kind act) (p .1) in
-    let o = or-false (not (eqb (length mem) 10240)) (badSlots (b .slots)) (p .0) in
-    let h = ltb-false 7 slot (q .0) in
+pub whole : (b : Bank) (mem : List Float) (slot : ℕ) → bad b mem ≡ false → Whole b mem slot
+unfolding bad
+whole b mem slot e =
+    let o = or-false (not (eqb (length mem) 10240)) (badSlots (b .slots)) e in
     record {
       size = eqb-true (length mem) 10240 (not-false (eqb (length mem) 10240) (o .0));
       sound = sound (slotAt b slot) (none-bad (b .slots) slot emptySlot empty-good (o .1));
-      slot-in = omega arith;
-      rest = q .1;
     }
+
+-- what numbers 1 and 2 leave
+pub record Begun (bad : Bool) (slot kind : ℕ) (act : Act) : Type 0 where
+  pub good : bad ≡ false
+  pub slot-in : slot < 8
+  pub rest : first (checks kind act) ≡ Accepted
+
+pub begun : (bad : Bool) (slot kind : ℕ) (act : Act) → verdict bad kind (record { slot = slot; act = act }) ≡ Accepted → Begun bad slot kind act
+unfolding verdict
+begun bad slot kind act e =
+    let p = spared R.Memory bad (R.NoSlot ⇐ ltb 7 slot ∷ checks kind act) e in
+    let q = spared R.NoSlot (ltb 7 slot) (checks kind act) (p .1) in
+    let h = ltb-false 7 slot (q .0) in
+    record { good = p .0; slot-in = omega arith; rest = q .1 }
 
 -- a kind that may be opened is not 0
 pub asked : (kind k : ℕ) (rate : Float) → first (checks kind (opening k rate)) ≡ Accepted → 0 < k
@@ -100,14 +106,10 @@ asked kind zero rate e = absurd (true-false (spared R.Kind true _ e .0))
 asked kind (suc k) rate e = omega arith
 
 -- what the checks of a render leave: its slot is not empty, and its buffers have one length, of at most 4,096
-module _ (b : Bank) (mem : List Float) (slot : ℕ) (k : Knobs) (u : Bufs)
-    (e : verdict (bad b mem) (slotAt b slot .kind) (record { slot = slot; act = render k u }) ≡ Accepted) where
-  begins : Begun b mem slot (slotAt b slot .kind) (render k u)
-  begins = begun b mem slot (slotAt b slot .kind) (render k u) e
-
-  not-empty : (eqb (slotAt b slot .kind) 0 ≡ false) × (first (R.Lengths ⇐ not (alike u) ∷ R.TooLong ⇐ ltb 4096 (length (u .temp)) ∷ knobChecks k) ≡ Accepted)
+module _ (kind : ℕ) (k : Knobs) (u : Bufs) (e : first (checks kind (render k u)) ≡ Accepted) where
+  not-empty : (eqb kind 0 ≡ false) × (first (R.Lengths ⇐ not (alike u) ∷ R.TooLong ⇐ ltb 4096 (length (u .temp)) ∷ knobChecks k) ≡ Accepted)
   unfolding checks
-  not-empty = spared R.Empty (eqb (slotAt b slot .kind) 0) (R.Lengths ⇐ not (alike u) ∷ R.TooLong ⇐ ltb 4096 (length (u .temp)) ∷ knobChecks k) (begins .rest)
+  not-empty = spared R.Empty (eqb kind 0) (R.Lengths ⇐ not (alike u) ∷ R.TooLong ⇐ ltb 4096 (length (u .temp)) ∷ knobChecks k) e
 
   alike-checked : (not (alike u) ≡ false) × (first (R.TooLong ⇐ ltb 4096 (length (u .temp)) ∷ knobChecks k) ≡ Accepted)
   alike-checked = spared R.Lengths (not (alike u)) (R.TooLong ⇐ ltb 4096 (length (u .temp)) ∷ knobChecks k) (not-empty .1)
@@ -127,19 +129,13 @@ module _ (b : Bank) (mem : List Float) (slot : ℕ) (k : Knobs) (u : Bufs)
         aux-is = eqb-true (length (u .aux)) n (l .1);
       }
 
-  pub ready : Ready b mem slot (u .out)
-  ready =
-      let kind = slotAt b slot .kind in
+  short : length (u .out) ≤ 4096
+  short =
       let n = length (u .temp) in
-      let r = spared R.TooLong (ltb 4096 n) (knobChecks k) (alike-checked .1) in
+      let h : n ≤ 4096 = ltb-false 4096 n (spared R.TooLong (ltb 4096 n) (knobChecks k) (alike-checked .1) .0) in
+      omega (arith, alike-lent .out-is, h)
+
+  pub ready : (x : Slot) (mem : List Float) (slot : ℕ) → x .kind ≡ kind → Sound x → length mem ≡ 10240 → slot < 8 → Ready x mem slot (u .out)
+  ready x mem slot ek s size in8 =
       let full : kind ≡ 0 → ⊥ = eqb-false kind 0 (not-empty .0) in
-      let short : n ≤ 4096 = ltb-false 4096 n (r .0) in
-      record {
-        slot-in = begins .slot-in;
-        size = begins .size;
-        full = omega arith;
-        known = begins .sound .known;
-        string = begins .sound .string;
-        stretch = begins .sound .stretch;
-        short = omega (arith, alike-lent .out-is, short);
-      }
+      record { slot-in = in8; size = size; full = omega arith; known = s .known; string = s .string; stretch = s .stretch; short = short }

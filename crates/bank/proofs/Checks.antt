@@ -2,29 +2,20 @@
 use mathlib.Core.Path.{_≡_, refl, sym, _∙_, ap}
 use mathlib.Core.Bool.{Bool, true, false, not}
 use mathlib.Core.List.{List, [], _∷_}
-use Prim.Native.Nat.{ℕ}
 use lib.Dec.{eqb}
 use lib.ListN.{length}
 use lib.Ieee.{Float}
 use Rattle.bank.specs.declared.answers.Reason.{Reason}
 use Rattle.bank.specs.declared.answers.Verdict.{Verdict}
 use Rattle.bank.specs.declared.answers.Verdict.the-variants.{Accepted, Refused}
-use Rattle.bank.specs.declared.slots.Slot.{Slot}
 use Rattle.bank.specs.declared.slots.Bank.{Bank}
 use Rattle.bank.specs.Calls.{Bufs}
 use Rattle.bank.specs.Table.{Check, _⇐_, first, alike}
 use Rattle.bank.specs.World.{badSlots, bad}
 
 -- what a called test said, said of its definition
-pub told : {r b t : Bool} → r ≡ b → r ≡ t → b ≡ t
-told e h = sym e ∙ h
-
 pub told-not : {r b t : Bool} → r ≡ b → not r ≡ t → not b ≡ t
 told-not e h = sym (ap not e) ∙ h
-
--- a test of a slot's kind
-pub of-kind : (n : ℕ) {x y : Slot} {t : Bool} → x ≡ y → eqb (x .kind) n ≡ t → eqb (y .kind) n ≡ t
-of-kind n e h = sym (ap (λ (s : Slot). eqb (s .kind) n) e) ∙ h
 
 -- number 1, by the size of line memory
 pub other-size : (b : Bank) (mem : List Float) → eqb (length mem) 10240 ≡ false → true ≡ bad b mem

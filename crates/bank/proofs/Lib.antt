@@ -1,5 +1,5 @@
 -- Laws of the bank.
 pub mod Checks
 pub mod Places
-pub mod Acts
+pub mod Moves
 pub mod Accepted

@@ -9,7 +9,7 @@ use Rattle.utils.specs.F32.{c0}
 use Rattle.bank.specs.declared.slots.Slot.{Slot}
 use Rattle.string_voice.specs.String.{Good}
 use Rattle.bank.specs.declared.slots.Bank.{Bank}
-use Rattle.bank.specs.Slots.{openedOn, slotAt}
+use Rattle.bank.specs.Slots.{emptySlot, openedOn, slotAt}
 use Rattle.bank.specs.World.{Ready}
 
 -- an element does not turn on what stands past the end
@@ -17,6 +17,12 @@ pub getD-any : {A : Type 0} (l : List A) (i : ℕ) (d e : A) → i < length l �
 getD-any [] i d e h = absurd (omega arith)
 getD-any (x ∷ xs) zero d e h = refl
 getD-any (x ∷ xs) (suc i) d e h = getD-any xs i d e (omega arith)
+
+-- and past the end stands the other
+pub getD-past : {A : Type 0} (l : List A) (i : ℕ) (d : A) → length l ≤ i → getD l i d ≡ d
+getD-past [] i d h = refl
+getD-past (x ∷ xs) zero d h = absurd (omega arith)
+getD-past (x ∷ xs) (suc i) d h = getD-past xs i d (omega arith)
 
 -- an opening by the kind
 pub as-string : (kind : ℕ) (rate : Float) (lines : List Float) {q : Slot × List Float} → kind ≡ 1 → q ≡ openedOn 1 rate lines → q ≡ openedOn kind rate lines
@@ -28,17 +34,22 @@ as-modal zero rate lines l h e = absurd (omega arith)
 as-modal (suc zero) rate lines l h e = absurd (h refl)
 as-modal (suc (suc n)) rate lines l h e = e
 
--- a kind that is 1, and one that is not where the kinds are 1 and 2
-pub kind-string : {x y : Slot} → x ≡ y → x .kind ≡ 1 → y .kind ≡ 1
-kind-string e h = sym (ap (λ (s : Slot). s .kind) e) ∙ h
-
-pub kind-modal : {x y : Slot} → x ≡ y → 0 < y .kind → y .kind ≤ 2 → (x .kind ≡ 1 → ⊥) → y .kind ≡ 2
-kind-modal {x} {y} e l u h = let k : x .kind ≡ y .kind = ap (λ (s : Slot). s .kind) e in omega arith
+-- of the kinds that a render is ready for, one that is not 1
+pub kind-modal : (kind : ℕ) → 0 < kind → kind ≤ 2 → (kind ≡ 1 → ⊥) → kind ≡ 2
+kind-modal kind l u h = omega arith
 
 -- a string's part of line memory and its places are good
-pub good-part : (b : Bank) (mem : List Float) (slot : ℕ) (out : List Float) (x : Slot) → x ≡ slotAt b slot → Ready b mem slot out
+pub good-part : (x : Slot) (mem : List Float) (slot : ℕ) (out : List Float) → Ready x mem slot out
     → Good (x .string .string, take (1280 * slot + 1280 - 1280 * slot) (drop (1280 * slot) mem))
-good-part b mem slot out x e r =
+good-part x mem slot out r =
     let s : slot < 8 = r .slot-in in
     let l : length mem ≡ 10240 = r .size in
-    record { size = simp (length-take, length-drop) (omega arith); string = rw e (r .string); stretch = rw e (r .stretch) }
+    record { size = simp (length-take, length-drop) (omega arith); string = r .string; stretch = r .stretch }
+
+-- the kind of the slot in an element's place
+pub kind-any : (b : Bank) (slot : ℕ) (d : Slot) → slot < length (b .slots) → getD (b .slots) slot d .kind ≡ slotAt b slot .kind
+kind-any b slot d h = ap (λ (x : Slot). x .kind) (getD-any (b .slots) slot d emptySlot h)
+
+pub kind-none : (b : Bank) (slot : ℕ) → length (b .slots) ≤ slot → 0 ≡ slotAt b slot .kind
+unfolding emptySlot
+kind-none b slot h = sym (ap (λ (x : Slot). x .kind) (getD-past (b .slots) slot emptySlot h))

@@ -15,7 +15,8 @@ use Rattle.bank.specs.declared.answers.Verdict.the-variants.{Accepted, R
 use Rattle.bank.specs.declared.answers.Answer.{Answer}
 use Rattle.bank.specs.declared.answers.Answer.the-variants.{Drawn, Refusal}
 use Rattle.bank.specs.Slots.{fresh, slotAt, withSlot}
-use Rattle.bank.specs.Calls.{Bufs, lent, Voice, actDef}
+use Rattle.noise.specs.declared.excitation.Counts.{Counts}
+use Rattle.bank.specs.Calls.{Act, Bufs, lent, Voice, actDef}
 use Rattle.bank.specs.Table.{Call, verdict}
 
 pub record World : Type 0 where
@@ -99,12 +100,26 @@ pub record Left : Type 0 where
 abbrev pub leftOf : Event → Left
 leftOf e = record { answer = e .answer; after = e .after; bufs = e .bufs }
 
--- what the table has told of a render that it accepts
-pub record Ready (b : Bank) (mem : List Float) (slot : ℕ) (out : List Float) : Type 0 where
+-- what an accepted call makes of one slot, of the generator's word and of line memory
+pub record Moved : Type 0 where
+  pub slot : Slot
+  pub word : ℕ
+  pub mem : List Float
+  pub bufs : Bufs
+  pub counts : Counts
+
+unfoldable pub movedBy : Act → ℕ → Slot → ℕ → List Float → Moved
+movedBy act s x word mem =
+    let m = actDef act (record { slot = x; lines = linesAt s mem }) in
+    let d = value m word in
+    record { slot = d .voice .slot; word = ending m word; mem = withLines s (d .voice .lines) mem; bufs = d .bufs; counts = d .counts }
+
+-- what the table has told of a render that it accepts, of a slot x
+pub record Ready (x : Slot) (mem : List Float) (slot : ℕ) (out : List Float) : Type 0 where
   pub slot-in : slot < 8
   pub size : length mem ≡ 10240
-  pub full : 0 < slotAt b slot .kind
-  pub known : slotAt b slot .kind ≤ 2
-  pub string : slotAt b slot .string .string .string < 1024
-  pub stretch : slotAt b slot .string .string .stretch < 256
+  pub full : 0 < x .kind
+  pub known : x .kind ≤ 2
+  pub string : x .string .string .string < 1024
+  pub stretch : x .string .string .stretch < 256
   pub short : length out ≤ 4096

@@ -1,3 +1,4 @@
+pub mod acts;
 pub mod answers;
 pub mod calls;
 pub mod generator;

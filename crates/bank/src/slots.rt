@@ -76,6 +76,17 @@ pub fn slot_at(bank: Bank, slot: usize) -> Slot
     bank.slots[slot]
 }
 
+// The kind of a slot; where there is no such slot, 0.
+pub fn kind_at(bank: Bank, slot: usize) -> u32
+    ensures { λ r. ⌜ r ≡ slotAt bank slot .kind ⌝ }
+{
+    if slot < 8 {
+        let x = bank.slots[slot];
+        return x.kind;
+    }
+    0
+}
+
 pub fn with_slot(bank: Bank, slot: usize, x: Slot) -> Bank
     requires { ⌜ slot < 8 ⌝ }
     ensures { λ r. ⌜ r ≡ withSlot bank slot x ⌝ }

@@ -1,9 +1,9 @@
 // 01's table of refusals: the checks of each call, in its order.
 ghost use mathlib.Core.Path.{_≡_};
+ghost use Prim.Native.Nat.{ℕ};
 ghost use lib.ListN.{length};
 ghost use lib.Dec.{eqb};
 ghost use mathlib.Core.Bool.{_||_};
-ghost use Rattle.bank.specs.Slots.{slotAt};
 ghost use Rattle.bank.specs.Calls.{Bufs, opening, reset, render};
 ghost use Rattle.bank.specs.Table.{Call, first, within, alike, knobChecks, verdict};
 ghost use Rattle.bank.specs.World.{badSlot, badSlots, bad};
@@ -45,7 +45,7 @@ fn bad_slots(bank: Bank) -> bool
 }
 
 // Whether number 1 applies.
-fn bad(bank: Bank, lines: &[f32]) -> bool
+pub fn bad(bank: Bank, lines: &[f32]) -> bool
     ensures { λ r. ⌜ r ≡ bad bank (now (lines .entry)) ⌝ }
 {
     if lines.len() != 10240 {
@@ -109,10 +109,11 @@ fn check_knobs(k: Knobs) -> Verdict
     Verdict::Accepted
 }
 
-pub fn check_open(bank: Bank, lines: &[f32], slot: usize, kind: u32, sample_rate_hz: f32) -> Verdict
-    ensures { λ r. ⌜ r ≡ verdict (bad bank (now (lines .entry))) (slotAt bank slot .kind) (record { slot = slot; act = opening kind «sample_rate_hz» }) ⌝ }
+// The checks of each call: whether number 1 applies, the slot named, and its kind where the table asks for it.
+pub fn check_open(bad: bool, slot: usize, kind: u32, sample_rate_hz: f32) -> Verdict
+    ensures { λ r. ⌜ ((n : ℕ) → r ≡ verdict bad n (record { slot = slot; act = opening kind «sample_rate_hz» })) ⌝ }
 {
-    if bad(bank, lines) {
+    if bad {
         return Verdict::Refused(Reason::Memory);
     }
     if slot > 7 {
@@ -127,48 +128,46 @@ pub fn check_open(bank: Bank, lines: &[f32], slot: usize, kind: u32, sample_rate
     Verdict::Accepted
 }
 
-pub fn check_reset(bank: Bank, lines: &[f32], slot: usize) -> Verdict
-    ensures { λ r. ⌜ r ≡ verdict (bad bank (now (lines .entry))) (slotAt bank slot .kind) (record { slot = slot; act = reset }) ⌝ }
+pub fn check_reset(bad: bool, slot: usize, kind: u32) -> Verdict
+    ensures { λ r. ⌜ r ≡ verdict bad kind (record { slot = slot; act = reset }) ⌝ }
 {
-    if bad(bank, lines) {
+    if bad {
         return Verdict::Refused(Reason::Memory);
     }
     if slot > 7 {
         return Verdict::Refused(Reason::NoSlot);
     }
-    let x = crate::slots::slot_at(bank, slot);
-    if x.kind == 0 {
+    if kind == 0 {
         return Verdict::Refused(Reason::Empty);
     }
-    if x.kind == 2 {
+    if kind == 2 {
         return Verdict::Refused(Reason::NoReset);
     }
     Verdict::Accepted
 }
 
 pub fn check_render(
-    bank: Bank,
-    lines: &[f32],
+    bad: bool,
     slot: usize,
+    kind: u32,
     k: Knobs,
     temp: &[f32],
     temp_2: &[f32],
     out: &[f32],
     aux: &[f32],
 ) -> Verdict
-    ensures { λ r. ⌜ r ≡ verdict (bad bank (now (lines .entry))) (slotAt bank slot .kind) (record {
+    ensures { λ r. ⌜ r ≡ verdict bad kind (record {
       slot = slot;
       act = render k (record { temp = now (temp .entry); temp2 = now («temp_2» .entry); out = now (out .entry); aux = now (aux .entry) });
     }) ⌝ }
 {
-    if bad(bank, lines) {
+    if bad {
         return Verdict::Refused(Reason::Memory);
     }
     if slot > 7 {
         return Verdict::Refused(Reason::NoSlot);
     }
-    let x = crate::slots::slot_at(bank, slot);
-    if x.kind == 0 {
+    if kind == 0 {
         return Verdict::Refused(Reason::Empty);
     }
     if !alike(temp, temp_2, out, aux) {

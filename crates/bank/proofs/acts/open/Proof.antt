@@ -1,10 +1,10 @@
--- `calls::open_slot` meets its contract.
-use denote.Ref.{now}
-use Rattle.bank.proofs.Acts.{width, opened-left}
+-- `acts::open` meets its contract.
+use Rattle.bank.proofs.Moves.{width, opened-moved}
 use Prim.Native.Nat.{_+_, _-_, _*_}
+use denote.Ref.{now}
 use borrow.Author.Needs.{needs}
-use Rattle.bank.proofs.calls.open_slot.Statement.{statement}
-use Rattle.bank.proofs.calls.open_slot.Tie as tie
+use Rattle.bank.proofs.acts.open.Statement.{statement}
+use Rattle.bank.proofs.acts.open.Tie as tie
 
 mul-base : tie.Need-mul-base
 mul-base c = search needs
@@ -27,20 +27,17 @@ part-opened-end c = search needs
 opened-requires : tie.Need-opened-requires
 opened-requires c κs = search needs
 
-with-slot-requires : tie.Need-with-slot-requires
-with-slot-requires c κs = search needs
-
 same-length : tie.Need-same-length
 same-length c = search needs
 
 returns : tie.Need-returns
-returns c = λ w.
-    let a = c .before .before .before .before .before .before .args in
-    let o = c .before .before .before .opened in
-    opened-left (a .bank) (c .with-slot .result) (now (a .lines)) w (a .slot) (1280 * a .slot + 1280 - 1280 * a .slot) (width (a .slot)) (a .kind) (a .sample-rate-hz) (o .result) (o .last .1 .1 .0) (o .ensures) (c .with-slot .ensures)
+returns c = λ x w.
+    let a = c .before .before .before .before .before .args in
+    let o = c .before .before .opened in
+    opened-moved (now (a .lines)) w (a .slot) (1280 * a .slot + 1280 - 1280 * a .slot) (width (a .slot)) (a .kind) (a .sample-rate-hz) x (o .result) (o .last .1 .1 .0) (o .ensures)
 
-pub open-slot-spec : {M : Type 1} → statement M
-open-slot-spec =
+pub open-spec : {M : Type 1} → statement M
+open-spec =
     tie.close
     (tie.spec
     mul-base
@@ -50,6 +47,5 @@ open-slot-spec =
     part-opened-start
     part-opened-end
     opened-requires
-    with-slot-requires
     same-length
     returns)
