@@ -19,6 +19,8 @@ enum Held {
     Empty,
     String(Box<StringVoice>),
     Modal(Box<ModalVoice>),
+    /// A voice of that kind that halted.
+    Stopped(u32),
 }
 
 #[derive(Clone)]
@@ -41,31 +43,38 @@ pub struct Bank {
 }
 
 impl Slot {
-    /// The slot with that voice, and what is read of it.
-    fn holding(held: Held, ledger: Ledger) -> Self {
-        let record = record_of(&held);
+    /// The slot with that voice, and its lines where it has some.
+    fn holding(held: Held, ledger: Ledger) -> (Self, Vec<f32>) {
+        let (record, lines) = read(&held);
         let [kind, string, stretch, left] = [record[0], record[1], record[2], record[3]];
-        Slot { held, ledger, numbers: Numbers { kind, string, stretch, left }, record, put: false }
+        let numbers = Numbers { kind, string, stretch, left };
+        (Slot { held, ledger, numbers, record, put: false }, lines)
     }
 }
 
-/// A voice that is not there has every number 0.
-fn record_of(held: &Held) -> Vec<u32> {
-    let (kind, string, modal) = match held {
-        Held::Empty => (0, vec![], vec![]),
-        Held::String(voice) => (1, voice.kept().0, vec![]),
-        Held::Modal(voice) => (2, vec![], modals::record(voice)),
+/// The record and the lines of a voice. One that is not there has every number 0.
+fn read(held: &Held) -> (Vec<u32>, Vec<f32>) {
+    let (kind, string, lines, modal) = match held {
+        Held::Empty => (0, vec![], vec![], vec![]),
+        Held::String(voice) => {
+            let (words, lines) = strings::read(voice);
+            (1, words, lines.concat(), vec![])
+        }
+        Held::Modal(voice) => (2, vec![], vec![], modals::record(voice)),
+        Held::Stopped(kind) => (*kind, vec![], vec![], vec![]),
     };
     let part = |mut words: Vec<u32>, length| {
         words.resize(length, 0);
         words
     };
-    [vec![kind], part(string, strings::NUMBERS), part(modal, modals::NUMBERS)].concat()
+    let record =
+        [vec![kind], part(string, strings::NUMBERS), part(modal, modals::NUMBERS)].concat();
+    (record, lines)
 }
 
 impl Bank {
     pub fn fresh(seed: u32, memory: Vec<f32>) -> Self {
-        let empty = Slot::holding(Held::Empty, Ledger::default());
+        let (empty, _) = Slot::holding(Held::Empty, Ledger::default());
         Bank { slots: std::array::from_fn(|_| empty.clone()), word: seed, memory }
     }
 
@@ -82,13 +91,27 @@ impl Bank {
     pub fn put(&mut self, slot: u32, number: Number, value: u32) {
         let slot = &mut self.slots[slot as usize];
         slot.record[number as usize] = value;
-        slot.put = slot.record != record_of(&slot.held);
+        slot.put = slot.record != read(&slot.held).0;
         match number {
             Number::Kind => slot.numbers.kind = value,
             Number::String => slot.numbers.string = value,
             Number::Stretch => slot.numbers.stretch = value,
             Number::Left => slot.numbers.left = value,
         }
+    }
+
+    /// Whether the voice of a slot was stopped, so that nothing is known of it but its kind and its ledger.
+    pub fn is_stopped(&self, slot: u32) -> bool {
+        matches!(self.slots[slot as usize].held, Held::Stopped(_))
+    }
+
+    /// Stops the voice of a slot whose render halted, and gives the counts of that render by the ledger.
+    pub fn stop(&mut self, slot: u32, render: &Render, frames: u32) -> [u32; 3] {
+        let Slot { mut ledger, numbers, .. } = self.slots[slot as usize];
+        let counts = ledger.render(render, frames);
+        self.word = after_draws(self.word, counts.iter().sum());
+        (self.slots[slot as usize], _) = Slot::holding(Held::Stopped(numbers.kind), ledger);
+        counts
     }
 
     /// 01's number and the three counts, or how the Rust halted; line memory is lent up to that length.
@@ -126,17 +149,19 @@ impl Bank {
                 reset(&mut held)?;
                 ledger.reset();
             }
+            Asked::Render(render) if matches!(held, Held::Stopped(_)) => {
+                return Ok(self.stop(call.slot, &render, buffers[0].len() as u32));
+            }
             Asked::Render(render) => {
                 counts = ledger.render(&render, buffers[0].len() as u32);
                 let after = caught(|| rendered(&mut held, self.word, &render, buffers))?;
                 self.word = moved(self.word, counts.iter().sum(), after)?;
             }
         }
-        if let Held::String(voice) = &held {
-            self.memory[OWN * place..][..OWN].copy_from_slice(&strings::lines(voice));
-        }
-        self.slots[place] = Slot::holding(held, ledger);
-        self.slots[place].agrees()?;
+        let (slot, lines) = Slot::holding(held, ledger);
+        slot.agrees()?;
+        self.slots[place] = slot;
+        self.memory[OWN * place..][..lines.len()].copy_from_slice(&lines);
         Ok(counts)
     }
 }
@@ -163,6 +188,7 @@ fn opened(kind: u32, sample_rate: f32) -> Held {
 fn reset(held: &mut Held) -> Result<(), Halt> {
     match held {
         Held::String(voice) => Voice::reset(&mut **voice),
+        Held::Stopped(_) => Ok(()),
         _ => Err(Halt::Other("no string is reset".into())),
     }
 }
@@ -173,15 +199,19 @@ fn rendered(held: &mut Held, word: u32, r: &Render, buffers: &mut Buffers) -> u3
         match held {
             Held::String(voice) => Voice::render(&mut **voice, r, buffers),
             Held::Modal(voice) => Voice::render(&mut **voice, r, buffers),
-            Held::Empty => unreachable!("the table refuses an empty slot"),
+            Held::Empty | Held::Stopped(_) => unreachable!("there is a voice"),
         }
         get_word()
     })
 }
 
+fn after_draws(word: u32, draws: u32) -> u32 {
+    (0..draws).fold(word, |word, _| next(word))
+}
+
 /// The word after so many draws, where the next one gives that word.
 fn moved(word: u32, draws: u32, following: u32) -> Result<u32, Halt> {
-    let after = (0..draws).fold(word, |word, _| next(word));
+    let after = after_draws(word, draws);
     match next(after) == following {
         true => Ok(after),
         false => Err(Halt::Other(format!("the Rust did not draw the ledger's {draws} words"))),

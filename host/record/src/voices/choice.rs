@@ -61,11 +61,15 @@ pub struct Choice {
 
 impl Default for Choice {
     fn default() -> Self {
-        Choice { sequences: Vec::new(), word: SEED }
+        Choice::from_seed(SEED)
     }
 }
 
 impl Choice {
+    pub fn from_seed(word: u32) -> Self {
+        Choice { sequences: Vec::new(), word }
+    }
+
     pub fn draw(&mut self) -> f32 {
         self.word = next(self.word);
         unit(self.word)

@@ -1,7 +1,7 @@
 //! Sequences of calls of each voice as a file; docs/RECORD.md is its description.
 
 #[cfg(not(no_plaits))]
-pub(crate) mod choice;
+pub mod choice;
 pub mod format;
 #[cfg(not(no_plaits))]
 pub mod modals;

@@ -16,15 +16,21 @@ const SVF: [&str; 5] = ["g", "r", "h", "state_1", "state_2"];
 pub const NUMBERS: usize = 23;
 pub const PHASE: usize = 19;
 
-/// The string line, and the stretch line after it.
-pub fn lines(voice: &StringVoice) -> Vec<f32> {
+/// The numbers that a string keeps, and its string line and stretch line.
+pub fn read(voice: &StringVoice) -> (Vec<u32>, [Vec<f32>; 2]) {
     let text = format!("{voice:?}");
-    lines_of(&Tree::read(&text)).map(|line| line.field("line").floats()).concat()
-}
-
-fn lines_of<'a>(voice: &'a Tree) -> [&'a Tree<'a>; 2] {
-    let string = voice.field("string");
-    ["string", "stretch"].map(|name| string.field(name))
+    let tree = Tree::read(&text);
+    let string = tree.field("string");
+    let lines = [string.field("string"), string.field("stretch")];
+    let mut words = lines.map(|line| line.field("write_ptr").index() as u32).to_vec();
+    words.push(tree.field("remaining_noise_samples").index() as u32);
+    words.extend(numbers(tree.field("excitation_filter"), &SVF));
+    words.extend(numbers(string.field("iir_damping_filter"), &SVF));
+    words.extend(numbers(string.field("dc_blocker"), &["pole", "x", "y"]));
+    words.extend(numbers(string, &["delay", "dispersion_noise", "curved_bridge", "src_phase"]));
+    words.extend(string.field("out_sample").floats().into_iter().map(canonical));
+    words.extend(numbers(string, &["sample_rate_hz"]));
+    (words, lines.map(|line| line.field("line").floats()))
 }
 
 impl Voice for StringVoice {
@@ -50,18 +56,7 @@ impl Voice for StringVoice {
     }
 
     fn kept(&self) -> (Vec<u32>, [u32; 2]) {
-        let text = format!("{self:?}");
-        let tree = Tree::read(&text);
-        let string = tree.field("string");
-        let lines = lines_of(&tree);
-        let mut words = lines.map(|line| line.field("write_ptr").index() as u32).to_vec();
-        words.push(tree.field("remaining_noise_samples").index() as u32);
-        words.extend(numbers(tree.field("excitation_filter"), &SVF));
-        words.extend(numbers(string.field("iir_damping_filter"), &SVF));
-        words.extend(numbers(string.field("dc_blocker"), &["pole", "x", "y"]));
-        words.extend(numbers(string, &["delay", "dispersion_noise", "curved_bridge", "src_phase"]));
-        words.extend(string.field("out_sample").floats().into_iter().map(canonical));
-        words.extend(numbers(string, &["sample_rate_hz"]));
-        (words, lines.map(|line| digest_of_buffer(&line.field("line").floats())))
+        let (words, lines) = read(self);
+        (words, lines.map(|line| digest_of_buffer(&line)))
     }
 }

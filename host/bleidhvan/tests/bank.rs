@@ -1,0 +1,139 @@
+//! The wrapper as its users call it.
+
+use bleidhvan::{Bank, Counts, Kind, Knob, Knobs, LoadError, Refusal};
+
+/// A block of n frames of a slot: out, or why it was refused.
+fn render(bank: &mut Bank, slot: usize, knobs: &Knobs, n: usize) -> Result<Vec<f32>, Refusal> {
+    let [mut temp, mut temp_2, mut out, mut aux] = [0; 4].map(|_| vec![0.0; n]);
+    bank.render(slot, knobs, [&mut temp, &mut temp_2, &mut out, &mut aux])?;
+    Ok(out)
+}
+
+fn strike() -> Knobs {
+    Knobs { trigger: true, ..Knobs::default() }
+}
+
+/// A string in slot 0 and a modal voice in slot 1.
+fn both() -> Bank {
+    let mut bank = Bank::new(33);
+    bank.open(0, Kind::String, 48000.0).expect("a string is opened");
+    bank.open(1, Kind::Modal, 48000.0).expect("a modal voice is opened");
+    bank
+}
+
+#[test]
+fn both_kinds_sound() {
+    let mut bank = both();
+    for slot in [0, 1] {
+        let out = render(&mut bank, slot, &strike(), 512).expect("the render is accepted");
+        assert!(out.iter().any(|sample| sample.abs() > 0.001), "slot {slot}");
+    }
+}
+
+#[test]
+fn the_scope_example_is_counted() {
+    let mut bank = both();
+    let knobs = Knobs { f0: 1.0 / 2048.0, ..strike() };
+    let [mut temp, mut temp_2, mut out, mut aux] = [[0.0; 8]; 4];
+    let counts = bank.render(0, &knobs, [&mut temp, &mut temp_2, &mut out, &mut aux]);
+    assert_eq!(counts, Ok(Counts { burst: 8, dust: 0, dispersion: 3 }));
+}
+
+#[test]
+fn every_refusal_names_what_was_at_fault() {
+    let mut bank = both();
+    let before = bank.to_saved();
+    let lengths = [1, 2, 3, 4];
+    let [mut a, mut b, mut c, mut d] = lengths.map(|n| vec![0.0; n]);
+    let unlike = bank.render(0, &strike(), [&mut a, &mut b, &mut c, &mut d]);
+    let refusals = [
+        (2, bank.open(8, Kind::String, 48000.0).unwrap_err()),
+        (4, bank.open(0, Kind::Modal, 7999.0).unwrap_err()),
+        (5, bank.reset(7).unwrap_err()),
+        (6, bank.reset(1).unwrap_err()),
+        (7, unlike.unwrap_err()),
+        (8, render(&mut bank, 0, &strike(), 4097).unwrap_err()),
+    ];
+    for (number, refusal) in refusals {
+        assert_eq!(refusal.number(), number, "{refusal}");
+    }
+    assert_eq!(refusals[1].1.to_string(), "the sample rate is 7999, and must be 8000 to 192000");
+    assert_eq!(refusals[4].1, Refusal::Lengths { lengths });
+    assert!(before == bank.to_saved(), "a refusal changes nothing");
+}
+
+#[test]
+fn every_knob_is_refused_beyond_its_range_and_accepted_at_its_ends() {
+    for (number, knob) in (9..).zip(Knob::ALL) {
+        let with = |value: f32| {
+            let mut knobs = strike();
+            match knob {
+                Knob::F0 => knobs.f0 = value,
+                Knob::Accent => knobs.accent = value,
+                Knob::Structure => knobs.structure = value,
+                Knob::Brightness => knobs.brightness = value,
+                Knob::Damping => knobs.damping = value,
+            }
+            knobs
+        };
+        let (low, high) = knob.range().into_inner();
+        for slot in [0, 1] {
+            for value in [low, high] {
+                assert!(render(&mut both(), slot, &with(value), 24).is_ok(), "{knob:?} {value}");
+            }
+            for value in [low.next_down(), high.next_up()] {
+                let refusal = render(&mut both(), slot, &with(value), 24).unwrap_err();
+                assert_eq!(refusal, Refusal::OutOfRange { knob, value });
+                assert_eq!(refusal.number(), number);
+            }
+        }
+    }
+}
+
+#[test]
+fn a_clone_goes_its_own_way() {
+    let mut bank = both();
+    let mut other = bank.clone();
+    let first = render(&mut bank, 0, &strike(), 64);
+    assert_ne!(bank.word(), 33);
+    assert_eq!(other.word(), 33);
+    assert_eq!(render(&mut other, 0, &strike(), 64), first);
+    assert_eq!(bank.to_saved(), other.to_saved());
+}
+
+#[test]
+fn a_saved_bank_goes_on_as_it_was() {
+    let mut bank = both();
+    render(&mut bank, 0, &strike(), 300).expect("the render is accepted");
+    let folder = std::env::temp_dir().join(format!("bleidhvan-{}", std::process::id()));
+    std::fs::create_dir_all(&folder).expect("a folder is made");
+    let path = folder.join("a.bank");
+    bank.save(&path).expect("the bank is saved");
+    let mut loaded = Bank::load(&path).expect("the bank is loaded");
+    assert_eq!(std::fs::read_dir(&folder).expect("the folder is read").count(), 1);
+    std::fs::remove_dir_all(&folder).expect("the folder is removed");
+    for slot in [0, 1] {
+        let sound = render(&mut bank, slot, &Knobs::default(), 64);
+        assert_eq!(render(&mut loaded, slot, &Knobs::default(), 64), sound);
+    }
+    assert!(matches!(Bank::load(&path), Err(LoadError::Unreadable(_))));
+}
+
+#[test]
+fn another_file_is_a_clear_error() {
+    let saved = both().to_saved();
+    let error = |bytes: &[u8]| Bank::from_saved(bytes).unwrap_err().to_string();
+    assert_eq!(error(b"RIFF"), "the file is not a saved bank");
+    assert_eq!(error(&saved[..9]), "the file is not a saved bank");
+    let length = saved.len();
+    let short = format!("the file has {} bytes, where a saved bank has {length}", length - 1);
+    assert_eq!(error(&saved[..length - 1]), short);
+    let mut other = saved.clone();
+    other[8] = 2;
+    assert_eq!(error(&other), "the bank has layout 2, and this is for layout 1");
+    for place in [12, 16, length / 2, length - 1] {
+        let mut other = saved.clone();
+        other[place] ^= 1;
+        assert_eq!(error(&other), "the file was changed since it was saved", "byte {place}");
+    }
+}
