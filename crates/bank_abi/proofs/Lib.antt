@@ -1,0 +1,3 @@
+-- Laws of the bytes.
+pub mod Little
+pub mod Floats

@@ -1,0 +1,83 @@
+-- The calls on a bank that crosses as bytes: eight slots one after the other. Assumes nothing.
+use mathlib.Core.Bool.{Bool, false, not, _&&_, _||_}
+use mathlib.Core.List.{List, [], _∷_, map}
+use Prim.Native.Nat.{ℕ, zero, suc, _*_}
+use lib.Dec.{eqb, ltb}
+use lib.ListN.{length, getD, take, drop}
+use lib.Ieee.{Float}
+use Rattle.utils.specs.Part.{put}
+use Rattle.noise.specs.declared.excitation.Counts.{Counts}
+use Rattle.bank.specs.declared.slots.Bank.{Bank}
+use Rattle.bank.specs.declared.answers.Verdict.{Verdict}
+use Rattle.bank.specs.declared.answers.Verdict.the-variants.{Accepted, Refused}
+use Rattle.bank.specs.Answers.{noCounts, reasonNumber}
+use Rattle.bank.specs.Slots.{slotAt}
+use Rattle.bank.specs.Calls.{Bufs, lent}
+use Rattle.bank.specs.Table.{Call, verdict}
+use Rattle.bank.specs.World.{World, bad, movedBy}
+use Rattle.bank_abi.specs.Words.{each}
+use Rattle.bank_abi.specs.Layout.{decodeSlot, encodeSlot}
+
+-- the bytes of n slots
+unfoldable pub parts : ℕ → List ℕ → List (List ℕ)
+parts zero bs = []
+parts (suc n) bs = take 393 bs ∷ parts n (drop 393 bs)
+
+unfoldable pub decodeBank : List ℕ → Bank
+decodeBank bs = record { slots = map decodeSlot (parts 8 bs) }
+
+unfoldable pub encodeBank : Bank → List ℕ
+encodeBank b = each encodeSlot (b .slots)
+
+-- a flag is 0 or 1
+abbrev pub goodFlag : List ℕ → Bool
+goodFlag bs = ltb (getD bs 392 0) 2
+
+unfoldable pub badFlags : List (List ℕ) → Bool
+badFlags [] = false
+badFlags (b ∷ bs) = not (goodFlag b) || badFlags bs
+
+-- bytes that are a bank, whatever it holds
+unfoldable pub isBank : List ℕ → Bool
+isBank bs = eqb (length bs) 3144 && not (badFlags (parts 8 bs))
+
+-- number 1, where a bank crosses as bytes
+unfoldable pub badBytes : List ℕ → List Float → Bool
+badBytes bs mem = not (isBank bs) || bad (decodeBank bs) mem
+
+-- bytes with a slot's in their place
+abbrev pub withBytes : ℕ → List ℕ → List ℕ → List ℕ
+withBytes slot new bs = put (393 * slot) 393 new bs
+
+-- what crosses: the bank's bytes, the generator's word and line memory
+pub record Crossing : Type 0 where
+  pub bytes : List ℕ
+  pub word : ℕ
+  pub mem : List Float
+
+-- the same with the bank decoded
+abbrev pub worldOf : Crossing → World
+worldOf x = record { bank = decodeBank (x .bytes); word = x .word; mem = x .mem }
+
+-- what a call leaves: 01's number and counts, what crossed after it, and the buffers
+pub record Crossed : Type 0 where
+  pub number : ℕ
+  pub counts : Counts
+  pub after : Crossing
+  pub bufs : Bufs
+
+-- accepted, the slot that the call names is decoded, moved and encoded in its place; refused, nothing changes
+unfoldable pub crossBy : Verdict → Crossing → Call → Crossed
+crossBy Accepted x c =
+    let m = movedBy (c .act) (c .slot) (slotAt (decodeBank (x .bytes)) (c .slot)) (x .word) (x .mem) in
+    record {
+      number = 0;
+      counts = m .counts;
+      after = record { bytes = withBytes (c .slot) (encodeSlot (m .slot)) (x .bytes); word = m .word; mem = m .mem };
+      bufs = m .bufs;
+    }
+crossBy (Refused r) x c = record { number = reasonNumber r; counts = noCounts; after = x; bufs = lent (c .act) }
+
+-- a call, by the table
+unfoldable pub crossDef : Crossing → Call → Crossed
+crossDef x c = crossBy (verdict (badBytes (x .bytes) (x .mem)) (slotAt (decodeBank (x .bytes)) (c .slot) .kind) c) x c
