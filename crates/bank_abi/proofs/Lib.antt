@@ -1,3 +1,6 @@
 -- Laws of the bytes.
 pub mod Little
 pub mod Floats
+pub mod Parts
+pub mod Back
+pub mod Crosses

@@ -221,3 +221,8 @@ slot-wrote s v bs e f g l o ev =
     let k = length-voice (s .string) in
     let w = wrote 0 24 (s .kind ∷ a) b bs (wrote 0 1 (s .kind ∷ []) a bs e f refl (omega arith)) g (omega arith) (omega arith) in
     ap (λ (q : List ℕ). set q 392 v) w ∙ whole-slot (slotWords s) bs v l (length-slot s o) ∙ ap (λ (q : ℕ). bytes (slotWords s) ++ (q ∷ [])) ev
+
+pub length-slot-bytes : (s : Slot) → ModalF32 (s .modal) → length (encodeSlot s) ≡ 393
+unfolding encodeSlot
+length-slot-bytes s f =
+    length-append (bytes (slotWords s)) (flagOf (s .modal .held) ∷ []) ∙ ap (λ (n : ℕ). n + 1) (length-bytes (slotWords s) ∙ ap (λ (n : ℕ). 4 * n) (length-slot s f))

@@ -1,6 +1,7 @@
 -- The calls on a bank that crosses as bytes: eight slots one after the other. Assumes nothing.
-use mathlib.Core.Bool.{Bool, false, not, _&&_, _||_}
+use mathlib.Core.Bool.{Bool, true, false, not, _&&_, _||_}
 use mathlib.Core.List.{List, [], _∷_, map}
+use mathlib.Core.Path.{_≡_}
 use Prim.Native.Nat.{ℕ, zero, suc, _*_}
 use lib.Dec.{eqb, ltb}
 use lib.ListN.{length, getD, take, drop}
@@ -10,11 +11,11 @@ use Rattle.noise.specs.declared.excitation.Counts.{Counts}
 use Rattle.bank.specs.declared.slots.Bank.{Bank}
 use Rattle.bank.specs.declared.answers.Verdict.{Verdict}
 use Rattle.bank.specs.declared.answers.Verdict.the-variants.{Accepted, Refused}
-use Rattle.bank.specs.Answers.{noCounts, reasonNumber}
+use Rattle.bank.specs.Answers.{noCounts, reasonNumber, numberOf, countsOf}
 use Rattle.bank.specs.Slots.{slotAt}
 use Rattle.bank.specs.Calls.{Bufs, lent}
 use Rattle.bank.specs.Table.{Call, verdict}
-use Rattle.bank.specs.World.{World, bad, movedBy}
+use Rattle.bank.specs.World.{World, Event, bad, movedBy, callDef}
 use Rattle.bank_abi.specs.Words.{each}
 use Rattle.bank_abi.specs.Layout.{decodeSlot, encodeSlot}
 
@@ -29,13 +30,13 @@ decodeBank bs = record { slots = map decodeSlot (parts 8 bs) }
 unfoldable pub encodeBank : Bank → List ℕ
 encodeBank b = each encodeSlot (b .slots)
 
--- a flag is 0 or 1
-abbrev pub goodFlag : List ℕ → Bool
-goodFlag bs = ltb (getD bs 392 0) 2
+-- a flag that is neither 0 nor 1
+abbrev pub badFlag : List ℕ → Bool
+badFlag bs = ltb 1 (getD bs 392 0)
 
 unfoldable pub badFlags : List (List ℕ) → Bool
 badFlags [] = false
-badFlags (b ∷ bs) = not (goodFlag b) || badFlags bs
+badFlags (b ∷ bs) = badFlag b || badFlags bs
 
 -- bytes that are a bank, whatever it holds
 unfoldable pub isBank : List ℕ → Bool
@@ -81,3 +82,20 @@ crossBy (Refused r) x c = record { number = reasonNumber r; counts = noCounts; a
 -- a call, by the table
 unfoldable pub crossDef : Crossing → Call → Crossed
 crossDef x c = crossBy (verdict (badBytes (x .bytes) (x .mem)) (slotAt (decodeBank (x .bytes)) (c .slot) .kind) c) x c
+
+-- what the bank's own call leaves, as numbers
+abbrev pub numbersOf : Event → ℕ × Counts × World × Bufs
+numbersOf e = (numberOf (e .answer), countsOf (e .answer), e .after, e .bufs)
+
+-- what a call on bytes leaves, the bank decoded
+abbrev pub decoded : Crossed → ℕ × Counts × World × Bufs
+decoded y = (y .number, y .counts, worldOf (y .after), y .bufs)
+
+-- where the bytes are a bank, the call on bytes is the bank's
+abbrev pub Agrees : Crossing → Call → Crossed → Type 0
+Agrees x c y = isBank (x .bytes) ≡ true → numbersOf (callDef (worldOf x) c) ≡ decoded y
+
+-- what an exported call gives
+pub record Gives (x : Crossing) (c : Call) (y : Crossed) : Type 0 where
+  pub is : crossDef x c ≡ y
+  pub agrees : Agrees x c y

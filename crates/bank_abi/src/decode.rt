@@ -1,9 +1,11 @@
 // A slot from its 393 bytes.
 ghost use mathlib.Core.Path.{_≡_};
-ghost use Prim.Native.Nat.{_+_, _*_, _≤_};
+ghost use Prim.Native.Nat.{_+_, _*_, _≤_, _<_};
 ghost use lib.Dec.{eqb};
 ghost use lib.ListN.{length, getD};
 ghost use Rattle.utils.specs.Frames.{tab};
+ghost use Rattle.bank.specs.Slots.{slotAt};
+ghost use Rattle.bank_abi.specs.Crossing.{decodeBank};
 ghost use Rattle.bank_abi.specs.Words.{words};
 ghost use Rattle.bank_abi.specs.Layout.{floatIn, svfIn, dcIn, stringIn, voiceIn, modeIn, batchIn, modalIn, decodeSlot};
 use crate::words::float_at;
@@ -168,7 +170,7 @@ fn modal_at(b: &[u8]) -> ModalVoice
     }
 }
 
-pub fn slot_at(b: &[u8]) -> Slot
+fn slot_at(b: &[u8]) -> Slot
     requires { ⌜ length (now b) ≡ 393 ⌝ }
     ensures { λ r. ⌜ r ≡ decodeSlot (now (b .entry)) ⌝ }
 {
@@ -180,4 +182,14 @@ pub fn slot_at(b: &[u8]) -> Slot
         string,
         modal,
     }
+}
+
+// A slot of a bank.
+pub fn nth(bytes: &[u8], slot: usize) -> Slot
+    requires { ⌜ (slot < 8) × (length (now bytes) ≡ 3144) ⌝ }
+    ensures { λ r. ⌜ r ≡ slotAt (decodeBank (now (bytes .entry))) slot ⌝ }
+{
+    let from = 393 * slot;
+    let to = from + 393;
+    slot_at(&bytes[from..to])
 }

@@ -1,7 +1,8 @@
 // A slot into its 393 bytes.
 ghost use mathlib.Core.Path.{_≡_};
-ghost use Prim.Native.Nat.{_+_, _*_, _≤_};
+ghost use Prim.Native.Nat.{_+_, _*_, _≤_, _<_};
 ghost use lib.ListN.{length};
+ghost use Rattle.bank_abi.specs.Crossing.{withBytes};
 ghost use Rattle.bank_abi.specs.Words.{putWords, each};
 ghost use Rattle.bank_abi.specs.Layout.{F32, SvfF32, DcF32, StringF32, VoiceF32, ModeF32, BatchF32, All, ModalF32, SlotF32, svfWords, dcWords, stringWords, voiceWords, modeWords, batchWords, floatWords, modalWords, encodeSlot, flagOf};
 use crate::words::put_float;
@@ -123,7 +124,7 @@ fn flag(held: bool) -> u8
     0
 }
 
-pub fn put_slot(b: &mut [u8], s: Slot)
+fn put_slot(b: &mut [u8], s: Slot)
     requires { ⌜ length (now b) ≡ 393 ⌝ }
     ensures { λ _. ⌜ (now (b .exit) ≡ encodeSlot s) × SlotF32 s ⌝ }
 {
@@ -132,4 +133,14 @@ pub fn put_slot(b: &mut [u8], s: Slot)
     put_modal(b, s.modal);
     let held = s.modal.held;
     b[392] = flag(held);
+}
+
+// A slot of a bank is written, and the others are kept.
+pub fn put_nth(bytes: &mut [u8], slot: usize, x: Slot)
+    requires { ⌜ (slot < 8) × (length (now bytes) ≡ 3144) ⌝ }
+    ensures { λ _. ⌜ (now (bytes .exit) ≡ withBytes slot (encodeSlot x) (now (bytes .entry))) × SlotF32 x ⌝ }
+{
+    let from = 393 * slot;
+    let to = from + 393;
+    put_slot(&mut bytes[from..to], x);
 }
