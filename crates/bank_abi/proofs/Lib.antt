@@ -4,3 +4,4 @@ pub mod Floats
 pub mod Parts
 pub mod Back
 pub mod Crosses
+pub mod Zeros

@@ -1,5 +1,5 @@
 -- The calls on a bank that crosses as bytes: eight slots one after the other. Assumes nothing.
-use mathlib.Core.Bool.{Bool, true, false, not, _&&_, _||_}
+use mathlib.Core.Bool.{Bool, true, false, not, _&&_, _||_, cond}
 use mathlib.Core.List.{List, [], _∷_, map}
 use mathlib.Core.Path.{_≡_}
 use Prim.Native.Nat.{ℕ, zero, suc, _*_}
@@ -9,10 +9,11 @@ use lib.Ieee.{Float}
 use Rattle.utils.specs.Part.{put}
 use Rattle.noise.specs.declared.excitation.Counts.{Counts}
 use Rattle.bank.specs.declared.slots.Bank.{Bank}
+use Rattle.bank.specs.declared.answers.Reason.the-variants.{Memory}
 use Rattle.bank.specs.declared.answers.Verdict.{Verdict}
 use Rattle.bank.specs.declared.answers.Verdict.the-variants.{Accepted, Refused}
 use Rattle.bank.specs.Answers.{noCounts, reasonNumber, numberOf, countsOf}
-use Rattle.bank.specs.Slots.{slotAt}
+use Rattle.bank.specs.Slots.{fresh, slotAt}
 use Rattle.bank.specs.Calls.{Bufs, lent}
 use Rattle.bank.specs.Table.{Call, verdict}
 use Rattle.bank.specs.World.{World, Event, bad, movedBy, callDef}
@@ -29,6 +30,10 @@ decodeBank bs = record { slots = map decodeSlot (parts 8 bs) }
 
 unfoldable pub encodeBank : Bank → List ℕ
 encodeBank b = each encodeSlot (b .slots)
+
+-- making a fresh bank: refused with 1 where the length is another
+unfoldable pub freshDef : List ℕ → ℕ × List ℕ
+freshDef bs = cond (eqb (length bs) 3144) (0, encodeBank fresh) (reasonNumber Memory, bs)
 
 -- a flag that is neither 0 nor 1
 abbrev pub badFlag : List ℕ → Bool

@@ -1,10 +1,12 @@
 // The bank's calls with C linkage. The bank crosses as bytes, by the layout of docs/ABI.md; the answer is 01's number, returned, and three counts.
 ghost use mathlib.Core.Path.{_≡_};
 ghost use Prim.Native.Nat.{ℕ};
+ghost use lib.ListN.{length};
+ghost use Rattle.bank.specs.Slots.{fresh};
 ghost use Rattle.bank.specs.Answers.{noCounts};
 ghost use Rattle.bank.specs.Calls.{Bufs, opening, reset, render, lent};
 ghost use Rattle.bank.specs.Table.{Call};
-ghost use Rattle.bank_abi.specs.Crossing.{Crossing, Crossed, Gives};
+ghost use Rattle.bank_abi.specs.Crossing.{encodeBank, freshDef, Crossing, Crossed, Gives};
 
 pub mod decode;
 pub mod encode;
@@ -13,6 +15,30 @@ pub mod words;
 
 use bank::answers::Verdict;
 use noise::excitation::Knobs;
+
+// The length of a bank in bytes.
+#[no_mangle]
+pub extern "C" fn bleidhvan_bank_bytes() -> usize
+    ensures { λ r. ⌜ r ≡ length (encodeBank fresh) ⌝ }
+{
+    3144
+}
+
+// The bytes become a fresh bank, every slot of it empty; bytes of another length stay as they are, and the answer is 1.
+#[no_mangle]
+pub extern "C" fn bleidhvan_fresh(bytes: &mut [u8]) -> u32
+    ensures { λ r. ⌜ (r, now (bytes .exit)) ≡ freshDef (now (bytes .entry)) ⌝ }
+{
+    if bytes.len() != 3144 {
+        return 1;
+    }
+    let mut i: usize = 0;
+    while i < 3144 {
+        bytes[i] = 0;
+        i += 1;
+    }
+    0
+}
 
 // A slot is opened with a voice of the kind, and its lines are cleared. An opening draws nothing: its counts are 0.
 #[no_mangle]
