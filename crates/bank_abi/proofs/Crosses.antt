@@ -1,0 +1,140 @@
+-- What a call on bytes leaves, by the table's word, and that it is the bank's call on the decoded bank. Assumes nothing.
+use mathlib.Core.Path.{_≡_, refl, sym, _∙_, ap, subst}
+use mathlib.Core.Bool.{Bool, true, false, not, _&&_, _||_, false≢true}
+use mathlib.Core.List.{List, [], _∷_, map}
+use Prim.Native.Nat.{ℕ, zero, suc, _+_, _-_, _*_, _<_, _≤_}
+use native.Mathlib.Omega.{arith}
+use lib.Dec.{eqb}
+use lib.ListN.{length, take, drop, set}
+use lib.Ieee.{Float}
+use borrow.Author.Tests.{eqb-true}
+use Rattle.utils.specs.Part.{put}
+use Rattle.noise.specs.declared.excitation.Counts.{Counts}
+use Rattle.bank.specs.declared.answers.Reason.{Reason}
+use Rattle.bank.specs.declared.answers.Verdict.{Verdict}
+use Rattle.bank.specs.declared.answers.Verdict.the-variants.{Accepted, Refused}
+use Rattle.bank.specs.declared.slots.Slot.{Slot}
+use Rattle.bank.specs.declared.slots.Bank.{Bank}
+use Rattle.bank.specs.Answers.{noCounts, reasonNumber, numberOf, countsOf}
+use Rattle.bank.specs.Slots.{slotAt, withSlot}
+use Rattle.bank.specs.Calls.{Act, Bufs, lent}
+use Rattle.bank.specs.Table.{Call, first, checks, verdict}
+use Rattle.bank.specs.World.{World, Event, bad, Moved, movedBy, callBy, callDef}
+use Rattle.bank.proofs.Accepted.{Sound, Whole, whole, Begun, begun}
+use Rattle.utils.proofs.Part.{length-part}
+use Rattle.utils.proofs.Draw.{always-run, draws-always}
+use Rattle.bank.specs.Calls.{Voice, actDef}
+use Rattle.bank.specs.World.{linesAt}
+use Rattle.claims.specs.Claim.{InF32}
+use Rattle.claims.specs.Ledger.{entry}
+use Rattle.claims.proofs.Acts.{Ok, Follows, led-of, act-law}
+use Rattle.bank_abi.proofs.Parts.{bank-after}
+use Rattle.bank_abi.proofs.Little.{length-slot-bytes}
+use Rattle.bank_abi.proofs.Back.{Numbers, decode-encode}
+use Rattle.bank_abi.specs.Layout.{SlotF32, decodeSlot, encodeSlot}
+use Rattle.bank_abi.specs.Crossing.{parts, decodeBank, badFlags, isBank, badBytes, withBytes, Crossing, worldOf, Crossed, crossBy, crossDef, numbersOf, decoded, Agrees, Gives}
+
+-- ---- what number 1 leaves of the bytes
+
+record Good (bs : List ℕ) (mem : List Float) : Type 0 where
+  size : length bs ≡ 3144
+  bank : bad (decodeBank bs) mem ≡ false
+
+or-false : (a b : Bool) → a || b ≡ false → (a ≡ false) × (b ≡ false)
+or-false true b e = absurd (false≢true (sym e))
+or-false false b e = (refl, e)
+
+and-not : (a b : Bool) → not (a && b) ≡ false → a ≡ true
+and-not true b e = refl
+and-not false b e = absurd (false≢true (sym e))
+
+good : (bs : List ℕ) (mem : List Float) → badBytes bs mem ≡ false → Good bs mem
+unfolding badBytes isBank
+good bs mem e =
+    let o = or-false (not (isBank bs)) (bad (decodeBank bs) mem) e in
+    record { size = eqb-true (length bs) 3144 (and-not (eqb (length bs) 3144) (not (badFlags (parts 8 bs))) (o .0)); bank = o .1 }
+
+-- ---- the table's word on what the code read
+
+module _ (bs : List ℕ) (mem : List Float) (c : Call) where
+  abbrev kindOf : ℕ
+  kindOf = slotAt (decodeBank bs) (c .slot) .kind
+
+  -- a kind that is read from a bank; where number 1 applies none is asked for
+  same-word : (b : Bool) (n : ℕ) → b ≡ badBytes bs mem → (length bs ≡ 3144 → n ≡ kindOf) → verdict b n c ≡ verdict (badBytes bs mem) kindOf c
+  unfolding verdict first
+  same-word true n e k = ap (λ (x : Bool). verdict x kindOf c) e
+  same-word false n e k = ap (λ (m : ℕ). verdict false m c) (k (good bs mem (sym e) .size)) ∙ ap (λ (x : Bool). verdict x kindOf c) e
+
+  pub decided : {b : Bool} {n : ℕ} {r v : Verdict} → r ≡ verdict b n c → b ≡ badBytes bs mem → (length bs ≡ 3144 → n ≡ kindOf) → r ≡ v
+      → verdict (badBytes bs mem) kindOf c ≡ v
+  decided {b} {n} e eb en ev = sym (same-word b n eb en) ∙ sym e ∙ ev
+
+  -- what an acceptance tells
+  pub record Taken : Type 0 where
+    pub size : length bs ≡ 3144
+    pub slot-in : c .slot < 8
+    pub lines : length mem ≡ 10240
+    pub sound : Sound (slotAt (decodeBank bs) (c .slot))
+    pub rest : first (checks kindOf (c .act)) ≡ Accepted
+
+  pub taken : verdict (badBytes bs mem) kindOf c ≡ Accepted → Taken
+  taken e =
+      let g = begun (badBytes bs mem) (c .slot) kindOf (c .act) e in
+      let h = good bs mem (g .good) in
+      let w = whole (decodeBank bs) mem (c .slot) (h .bank) in
+      record { size = h .size; slot-in = g .slot-in; lines = w .size; sound = w .sound; rest = g .rest }
+
+-- ---- what an accepted call leaves is a slot that the bytes can hold
+
+small-after : (act : Act) (slot : ℕ) (s : Slot) (word : ℕ) (mem : List Float) → Sound s → length mem ≡ 10240 → slot < 8 → InF32 act → first (checks (s .kind) act) ≡ Accepted
+    → Numbers (movedBy act slot s word mem .slot)
+unfolding movedBy
+small-after act slot s word mem o l h i e =
+    let v : Voice = record { slot = s; lines = linesAt slot mem } in
+    let ok : Ok s = record { kind = o .known; place = o .string; stretch = o .stretch; left = o .left } in
+    let size : length (linesAt slot mem) ≡ 1280 = length-part (1280 * slot) 1280 mem (omega arith) in
+    let a = draws-always _ (Follows (entry act (led-of s))) (actDef act v) (act-law act v ok size i e) in
+    let k = always-run (Follows (entry act (led-of s))) (actDef act v) word a refl .ok in
+    record { kind = omega (arith, k .kind); string = omega (arith, k .place); stretch = omega (arith, k .stretch); left = omega (arith, k .left) }
+
+-- ---- the two cases
+
+module _ (x : Crossing) (c : Call) where
+  abbrev kind : ℕ
+  kind = kindOf (x .bytes) (x .mem) c
+
+  -- of bytes that are a bank, number 1 is the bank's
+  same-table : isBank (x .bytes) ≡ true → verdict (bad (decodeBank (x .bytes)) (x .mem)) kind c ≡ verdict (badBytes (x .bytes) (x .mem)) kind c
+  unfolding badBytes
+  same-table e = rw e
+
+  pub refused : (r : Reason) {n : ℕ} → n ≡ reasonNumber r → verdict (badBytes (x .bytes) (x .mem)) kind c ≡ Refused r
+      → Gives x c (record { number = n; counts = noCounts; after = x; bufs = lent (c .act) })
+  unfolding crossDef crossBy callDef callBy
+  refused r en e =
+      record {
+        is = ap (λ (v : Verdict). crossBy v x c) e ∙ λ i. record { number = sym en i; counts = noCounts; after = x; bufs = lent (c .act) };
+        agrees = λ b. ap (λ (v : Verdict). numbersOf (callBy v (worldOf x) c)) (same-table b ∙ e) ∙ λ i. (sym en i, noCounts, worldOf x, lent (c .act));
+      }
+
+  pub accepted : (s : Slot) (m : Moved) (bs : List ℕ) → verdict (badBytes (x .bytes) (x .mem)) kind c ≡ Accepted → InF32 (c .act)
+      → s ≡ slotAt (decodeBank (x .bytes)) (c .slot) → movedBy (c .act) (c .slot) s (x .word) (x .mem) ≡ m
+      → bs ≡ withBytes (c .slot) (encodeSlot (m .slot)) (x .bytes) → SlotF32 (m .slot)
+      → Gives x c (record { number = 0; counts = m .counts; after = record { bytes = bs; word = m .word; mem = m .mem }; bufs = m .bufs })
+  unfolding crossDef crossBy callDef callBy movedBy
+  accepted s m bs e i es em eb f =
+      let t = taken (x .bytes) (x .mem) c e in
+      let s₀ = slotAt (decodeBank (x .bytes)) (c .slot) in
+      let em′ : movedBy (c .act) (c .slot) s₀ (x .word) (x .mem) ≡ m = ap (λ (y : Slot). movedBy (c .act) (c .slot) y (x .word) (x .mem)) (sym es) ∙ em in
+      let n : Numbers (m .slot) = subst (λ (q : Moved). Numbers (q .slot)) em′ (small-after (c .act) (c .slot) s₀ (x .word) (x .mem) (t .sound) (t .lines) (t .slot-in) i (t .rest)) in
+      let d : decodeBank bs ≡ withSlot (decodeBank (x .bytes)) (c .slot) (m .slot) =
+      ap decodeBank eb ∙ bank-after (x .bytes) (encodeSlot (m .slot)) (c .slot) (m .slot) (t .size) (t .slot-in) (length-slot-bytes (m .slot) (f .1)) (decode-encode (m .slot) f n) in
+      record {
+        is = ap (λ (v : Verdict). crossBy v x c) e
+            ∙ ap (λ (q : Moved). record { number = 0; counts = q .counts; after = record { bytes = withBytes (c .slot) (encodeSlot (q .slot)) (x .bytes); word = q .word; mem = q .mem }; bufs = q .bufs }) em′
+            ∙ λ j. record { number = 0; counts = m .counts; after = record { bytes = sym eb j; word = m .word; mem = m .mem }; bufs = m .bufs };
+        agrees = λ b. ap (λ (v : Verdict). numbersOf (callBy v (worldOf x) c)) (same-table b ∙ e)
+            ∙ ap (λ (q : Moved). (0, q .counts, record { bank = withSlot (decodeBank (x .bytes)) (c .slot) (q .slot); word = q .word; mem = q .mem }, q .bufs)) em′
+            ∙ λ j. (0, m .counts, record { bank = sym d j; word = m .word; mem = m .mem }, m .bufs);
+      }

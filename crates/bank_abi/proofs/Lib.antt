@@ -1,0 +1,7 @@
+-- Laws of the bytes.
+pub mod Little
+pub mod Floats
+pub mod Parts
+pub mod Back
+pub mod Crosses
+pub mod Zeros

@@ -1,0 +1,20 @@
+-- `words::pattern_of` meets its contract.
+use Rattle.bank_abi.proofs.Floats.{not-nan}
+use lib.Ieee.Compare.{differs-from-itself}
+use lib.Ieee.{toBits}
+use borrow.Author.Needs.{needs}
+use Rattle.bank_abi.proofs.words.pattern_of.Statement.{statement}
+use Rattle.bank_abi.proofs.words.pattern_of.Tie as tie
+
+returns : tie.Need-returns
+unfolding toBits
+returns c = rw (differs-from-itself (c .before .args .x) (rw (c .if1 .taken) tt))
+
+float-to-bits-result : tie.Need-float-to-bits-result
+float-to-bits-result c = not-nan (c .before .args .x) (c .if1 .left)
+
+returns-2 : tie.Need-returns-2
+returns-2 c = search needs
+
+pub pattern-of-spec : {M : Type 1} → statement M
+pattern-of-spec = tie.close (tie.spec returns float-to-bits-result returns-2)
