@@ -1,4 +1,8 @@
-//! The buffers of a render.
+//! What a render is given.
+
+/// What is rendered: its name, sustain, f0 and structure.
+#[derive(Clone, Copy)]
+pub struct Setting(pub &'static str, pub bool, pub f32, pub f32);
 
 /// temp, temp_2, out and aux.
 pub type Buffers = [Vec<f32>; 4];

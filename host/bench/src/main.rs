@@ -1,7 +1,9 @@
-//! Times the port's leaves and voices beside the Rust's: both built for release, alternated in one run, the ratio of each pair taken.
+//! Times the port's leaves, voices and exported calls beside the Rust's: both built for release, alternated in one run, the ratio of each pair taken.
 
 use std::process::ExitCode;
 
+#[cfg(not(any(no_plaits, no_leaves)))]
+mod banks;
 #[cfg(not(any(no_plaits, no_leaves)))]
 mod buffers;
 #[cfg(not(any(no_plaits, no_leaves)))]
@@ -20,6 +22,7 @@ fn main() -> ExitCode {
     run::all();
     strings::all();
     modals::all();
+    banks::all();
     ExitCode::SUCCESS
 }
 

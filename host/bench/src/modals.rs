@@ -5,7 +5,7 @@ use std::hint::black_box;
 use oracle::physical_modelling::modal_voice::ModalVoice;
 use oracle::utils::random;
 
-use crate::buffers::{Buffers, same, silent};
+use crate::buffers::{Buffers, Setting, same, silent};
 use crate::ratio::compare;
 
 unsafe extern "C" {
@@ -30,15 +30,11 @@ unsafe extern "C" {
     ) -> u32;
 }
 
-/// What is rendered: its name, sustain, f0 and structure.
-#[derive(Clone, Copy)]
-struct Setting(&'static str, bool, f32, f32);
-
-const SETTINGS: [Setting; 2] =
+pub const SETTINGS: [Setting; 2] =
     [Setting("struck", false, 0.0073, 0.4), Setting("sustained", true, 0.0073, 0.4)];
 
 #[inline(never)]
-fn rust(setting: Setting, blocks: usize, word: u32, buffers: &mut Buffers) {
+pub fn rust(setting: Setting, blocks: usize, word: u32, buffers: &mut Buffers) {
     let Setting(_, sustain, f0, structure) = setting;
     let [temp, temp_2, out, aux] = buffers;
     let mut voice = ModalVoice::new();

@@ -5,7 +5,7 @@ use std::hint::black_box;
 use oracle::physical_modelling::string_voice::StringVoice;
 use oracle::utils::random;
 
-use crate::buffers::{Buffers, same, silent};
+use crate::buffers::{Buffers, Setting, same, silent};
 use crate::ratio::compare;
 
 unsafe extern "C" {
@@ -33,11 +33,7 @@ unsafe extern "C" {
     ) -> u32;
 }
 
-/// What is rendered: its name, sustain, f0 and structure.
-#[derive(Clone, Copy)]
-struct Setting(&'static str, bool, f32, f32);
-
-const SETTINGS: [Setting; 5] = [
+pub const SETTINGS: [Setting; 5] = [
     Setting("bridge", false, 0.0073, 0.1),
     Setting("dispersion", false, 0.0073, 0.8),
     Setting("dispersion, sustained", true, 0.0073, 0.8),
@@ -46,7 +42,7 @@ const SETTINGS: [Setting; 5] = [
 ];
 
 #[inline(never)]
-fn rust(setting: Setting, blocks: usize, word: u32, buffers: &mut Buffers) {
+pub fn rust(setting: Setting, blocks: usize, word: u32, buffers: &mut Buffers) {
     let Setting(_, sustain, f0, structure) = setting;
     let [temp, temp_2, out, aux] = buffers;
     let mut voice = StringVoice::new();

@@ -43,7 +43,7 @@ impl Knob {
     }
 
     /// The range as it is said to a user.
-    fn range_text(self) -> &'static str {
+    pub fn range_text(self) -> &'static str {
         match self {
             Knob::F0 => "2^-20 to 0.5 of the sample rate",
             _ => "0 to 1",

@@ -2,7 +2,7 @@
 
 use crate::pitch::hertz;
 use crate::sheet::Row;
-use bleidhvan::{Kind, Knobs, Refusal};
+use bleidhvan::{Kind, Knob, Knobs, Refusal};
 
 /// The most seconds of a note.
 pub const MOST_SECONDS: f64 = 3600.0;
@@ -43,14 +43,12 @@ impl Fault {
         let Refusal::OutOfRange { knob, value } = refusal else {
             return Fault { number, reason: refusal.to_string(), ..Fault::default() };
         };
-        let (low, high) = knob.range().into_inner();
-        let value = value.to_string();
-        let range = format!("{low} to {high}");
-        let pitch = format!("{note} gives an f0 of {value} of the sample rate: {refusal}");
-        match knob {
-            bleidhvan::Knob::F0 => Fault { number, column: "f0", value, range, reason: pitch },
-            _ => Fault { number, column: knob.name(), value, range, reason: refusal.to_string() },
-        }
+        let (value, range) = (value.to_string(), knob.range_text().into());
+        let reason = match knob {
+            Knob::F0 => format!("the note {note}: {refusal}"),
+            _ => refusal.to_string(),
+        };
+        Fault { number, column: knob.name(), value, range, reason }
     }
 }
 

@@ -112,14 +112,15 @@ fn entry(ordered: &Ordered, folder: &Path, settings: &Settings) -> Entry {
     let Ordered { row, name } = ordered;
     let outcome = name.clone().and_then(|name| {
         let note = note_of(row, settings.rate)?;
-        let label = format!("the note {}", row.cells[2].trim());
         let path = folder.join(file_of(&name));
-        render(&name, &note, &label, settings, &path).map_err(|failure| match failure {
-            Failure::Refused(fault) => fault,
-            Failure::Unwritten(error) => {
-                Fault::row(format!("{} cannot be written: {error}", path.display()))
-            }
-        })
+        render(&name, &note, row.cells[2].trim(), settings, &path).map_err(
+            |failure| match failure {
+                Failure::Refused(fault) => fault,
+                Failure::Unwritten(error) => {
+                    Fault::row(format!("{} cannot be written: {error}", path.display()))
+                }
+            },
+        )
     });
     Entry { name: row.cells[0].trim().into(), outcome }
 }
