@@ -16,6 +16,7 @@ body { font: 16px/1.5 system-ui, sans-serif; margin: 2rem auto; max-width: 66rem
 table { border-collapse: collapse; width: 100% }
 th, td { text-align: left; padding: .4rem .8rem .4rem 0; border-top: 1px solid #ddd; vertical-align: middle }
 thead th { border-top: none }
+tbody th { white-space: nowrap }
 svg { display: block; width: 15rem; height: 3rem; color: #2b6c8f }
 audio { width: 16rem }
 .refused td, .refused th { background: #fff4f0 }
@@ -37,7 +38,7 @@ fn sum(rendered: usize, refused: usize) -> String {
 /// Writes the page's beginning.
 pub fn begin(page: &mut impl Write) -> io::Result<()> {
     write!(page, "{HEAD}{}<table>\n", sum(0, 0))?;
-    writeln!(page, "<thead><tr><th>Name<th>Sound<th>Waveform<th>Knobs</thead>")
+    writeln!(page, "<thead><tr><th>Name<th>Sound<th>Waveform<th>Knobs</thead>\n<tbody>")
 }
 
 /// The page's last line, and the sum with its place.
@@ -49,8 +50,9 @@ pub fn end(page: &mut Part, rendered: usize, refused: usize) -> io::Result<()> {
 /// The lines of a note.
 pub fn row(row: &Row, entry: &Entry) -> String {
     let name = escaped(&entry.name);
-    let knobs: Vec<String> = NAMES.iter().zip(&row.cells).skip(1).map(knob).collect();
-    let knobs = knobs.join(", ");
+    let [_, kind, note, seconds, play, ..] = row.cells.each_ref().map(|text| escaped(text.trim()));
+    let knobs: Vec<String> = NAMES.iter().zip(&row.cells).skip(5).map(knob).collect();
+    let knobs = format!("{kind}, {note}, {seconds} s, {play}<br>{}", knobs.join(", "));
     match &entry.outcome {
         Ok(rendered) => {
             let file = escaped(&url(&file_of(&entry.name)));
