@@ -7,3 +7,5 @@ pub mod Halves
 pub mod Drawn
 pub mod Held
 pub mod OneLoop
+pub mod Unique
+pub mod Grid

@@ -3,3 +3,4 @@ pub mod Resonator
 pub mod OnePass
 pub mod ModalVoice
 pub mod OneLoop
+pub mod Subnormal

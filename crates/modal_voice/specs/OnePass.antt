@@ -1,7 +1,7 @@
 -- The one-pass form of Resonator::process: the coefficients of all modes first, then each frame through all modes. What belongs to the mode k of the
 -- batch b stands at the place 6 k + b. Assumes nothing.
 use mathlib.Core.List.{List}
-use Prim.Native.Nat.{ℕ, _+_, _*_, _/_, _%_}
+use Prim.Native.Nat.{ℕ, zero, suc, _+_, _*_, _/_, _%_}
 use lib.ListN.{getD, set}
 use lib.Ieee.{Float, nan}
 use Rattle.utils.specs.F32.{_⊕_, _⊗_, c0, c79·7}
@@ -112,6 +112,20 @@ bandsOf k one two x =
       «state_2» = tab 24 (λ t. tickIn k one two x t .svf .«state_2»);
       bands = tab 24 (λ t. getD (k .gain) t nan ⊗ tickIn k one two x t .bp);
     }
+
+-- the sample through the mode at a place alone, and through n from a place on
+abbrev pub placeOf : Modes → Bands → Float → ℕ → Bands
+placeOf k b x t =
+    let o = tickIn k (b .«state_1») (b .«state_2») x t in
+    record {
+      «state_1» = set (b .«state_1») t (o .svf .«state_1»);
+      «state_2» = set (b .«state_2») t (o .svf .«state_2»);
+      bands = set (b .bands) t (getD (k .gain) t nan ⊗ o .bp);
+    }
+
+abbrev pub placesOf : ℕ → Modes → Bands → Float → ℕ → Bands
+placesOf zero k b x t = b
+placesOf (suc n) k b x t = placesOf n k (placeOf k b x t) x (t + 1)
 
 -- the sum of the batch b, and all sums added to y in turn
 unfoldable pub batchSum : List Float → ℕ → Float

@@ -146,11 +146,11 @@ fn filter_ahead(k: Mode, s: ResonatorSvf, temp: &[f32], i: usize) -> Ahead
     ensures { λ r. ⌜ r ≡ aheadOf k s (now (temp .entry)) i ⌝ }
 {
     if i < temp.len() {
-        let t = crate::resonator::tick(k, s, temp[i]);
+        let t = crate::resonator::tick_at(true, k, s, temp[i]);
         let svf = t.svf;
         return Ahead {
             svf,
-            x: 0.0 + k.gain * t.lp,
+            x: 0.0 + crate::resonator::scale(true, k.gain, t.lp),
         };
     }
     Ahead { svf: s, x: 0.0 }
@@ -188,7 +188,7 @@ fn sound_frames(
         ahead = filter_ahead(k, filter, temp, i + 1);
         temp_2[i] = x;
         aux[i] += x;
-        crate::resonator::tick_all(
+        crate::resonator::tick_frame(
             &g,
             &r_plus_g,
             &h,

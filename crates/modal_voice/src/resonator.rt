@@ -1,9 +1,13 @@
 // Resonator, taken from Rings' code but with fixed position: 24 modes in six batches of four.
 ghost use mathlib.Core.Path.{_≡_};
-ghost use Prim.Native.Nat.{_<_};
+ghost use mathlib.Core.Bool.{_||_};
+ghost use Prim.Native.Nat.{_+_, _<_, _≤_};
 ghost use lib.ListN.{length};
+ghost use Rattle.utils.specs.F32.{_⊗_};
+ghost use Rattle.modal_voice.specs.Subnormal.{isSmall};
 ghost use Rattle.modal_voice.specs.Resonator.{svfNew, modeOf, tickOf, lowBlock, filtersNew, resonatorNew, resonatorInit, capOf, shrunk, nextOf, compensation, firstOf, lossOf, processOf};
-ghost use Rattle.modal_voice.specs.OnePass.{tuned, modesOf, modesFor, putBatch, statesOf, stateAt, batchAt, filtersOf, Bands, bandsOf, batchSum, addBatches, onePass};
+ghost use Rattle.modal_voice.specs.OnePass.{tuned, modesOf, modesFor, putBatch, statesOf, stateAt, batchAt, filtersOf, Bands, bandsOf, placesOf, batchSum, addBatches, onePass};
+use crate::subnormal::product;
 use utils::filter::FrequencyApproximation;
 
 // What a mode keeps: ResonatorSvf<1>, and a mode of ResonatorSvf<4>.
@@ -131,6 +135,52 @@ pub fn tick(k: Mode, s: ResonatorSvf, x: f32) -> Ticked
         state_2: k.g * bp + lp,
     };
     Ticked { svf, bp, lp }
+}
+
+// ---- where numbers may be subnormal
+
+// Whether products of what a mode keeps may be subnormal.
+fn is_small(s: ResonatorSvf) -> bool
+    ensures { λ r. ⌜ r ≡ isSmall s ⌝ }
+{
+    (s.state_1 < 1.0e-35) & (s.state_1 > -1.0e-35) & (s.state_2 < 1.0e-35) & (s.state_2 > -1.0e-35)
+}
+
+// `tick`, its products taken as if they were subnormal.
+fn tick_small(k: Mode, s: ResonatorSvf, x: f32) -> Ticked
+    ensures { λ r. ⌜ r ≡ tickOf k s x ⌝ }
+{
+    let r = product(k.r_plus_g, s.state_1);
+    let hp = product(x - r - s.state_2, k.h);
+    let g_hp = product(k.g, hp);
+    let bp = g_hp + s.state_1;
+    let g_bp = product(k.g, bp);
+    let lp = g_bp + s.state_2;
+    let svf = ResonatorSvf {
+        state_1: g_hp + bp,
+        state_2: g_bp + lp,
+    };
+    Ticked { svf, bp, lp }
+}
+
+// `tick`; at `quiet` a small mode goes the other way.
+pub fn tick_at(quiet: bool, k: Mode, s: ResonatorSvf, x: f32) -> Ticked
+    ensures { λ r. ⌜ r ≡ tickOf k s x ⌝ }
+{
+    if quiet & is_small(s) {
+        return tick_small(k, s, x);
+    }
+    tick(k, s, x)
+}
+
+// A gain times a sample; at `quiet` as if it were subnormal.
+pub fn scale(quiet: bool, gain: f32, sample: f32) -> f32
+    ensures { λ r. ⌜ r ≡ gain ⊗ sample ⌝ }
+{
+    if quiet {
+        return product(gain, sample);
+    }
+    gain * sample
 }
 
 // ---- the modes of a block
@@ -366,6 +416,153 @@ pub fn tick_all(
         bands[i] = k.gain * t.bp;
         i += 1;
     }
+}
+
+// Whether one of four modes from i on is small.
+fn any_small(state_1: &[f32; 24], state_2: &[f32; 24], i: usize) -> bool
+    requires { ⌜ i + 4 ≤ 24 ⌝ }
+    ensures { λ r. ⌜ r ≡ (isSmall (stateAt (now («state_1» .entry)) (now («state_2» .entry)) i) || isSmall (stateAt (now («state_1» .entry)) (now («state_2» .entry)) (i + 1)) || isSmall (stateAt (now («state_1» .entry)) (now («state_2» .entry)) (i + 2)) || isSmall (stateAt (now («state_1» .entry)) (now («state_2» .entry)) (i + 3))) ⌝ }
+{
+    is_small(mode_at(state_1, state_2, i))
+        | is_small(mode_at(state_1, state_2, i + 1))
+        | is_small(mode_at(state_1, state_2, i + 2))
+        | is_small(mode_at(state_1, state_2, i + 3))
+}
+
+// A sample through four modes from i on.
+fn tick_four(
+    g: &[f32; 24],
+    r_plus_g: &[f32; 24],
+    h: &[f32; 24],
+    gain: &[f32; 24],
+    state_1: &mut [f32; 24],
+    state_2: &mut [f32; 24],
+    bands: &mut [f32; 24],
+    x: f32,
+    i: usize,
+)
+    requires { ⌜ i + 4 ≤ 24 ⌝ }
+    ensures { λ _. ⌜ record { «state_1» = now («state_1» .exit); «state_2» = now («state_2» .exit); bands = now (bands .exit) } ≡ placesOf 4 (record { g = now (g .entry); «r_plus_g» = now («r_plus_g» .entry); h = now (h .entry); gain = now (gain .entry) }) (record { «state_1» = now («state_1» .entry); «state_2» = now («state_2» .entry); bands = now (bands .entry) }) x i ⌝ }
+{
+    let end = i + 4;
+    let mut j = i;
+    while j < end {
+        let k = Mode {
+            g: g[j],
+            r_plus_g: r_plus_g[j],
+            h: h[j],
+            gain: gain[j],
+        };
+        let s = ResonatorSvf {
+            state_1: state_1[j],
+            state_2: state_2[j],
+        };
+        let t = tick(k, s, x);
+        state_1[j] = t.svf.state_1;
+        state_2[j] = t.svf.state_2;
+        bands[j] = scale(false, k.gain, t.bp);
+        j += 1;
+    }
+}
+
+// The same, where some of them are small.
+fn tick_four_small(
+    g: &[f32; 24],
+    r_plus_g: &[f32; 24],
+    h: &[f32; 24],
+    gain: &[f32; 24],
+    state_1: &mut [f32; 24],
+    state_2: &mut [f32; 24],
+    bands: &mut [f32; 24],
+    x: f32,
+    i: usize,
+)
+    requires { ⌜ i + 4 ≤ 24 ⌝ }
+    ensures { λ _. ⌜ record { «state_1» = now («state_1» .exit); «state_2» = now («state_2» .exit); bands = now (bands .exit) } ≡ placesOf 4 (record { g = now (g .entry); «r_plus_g» = now («r_plus_g» .entry); h = now (h .entry); gain = now (gain .entry) }) (record { «state_1» = now («state_1» .entry); «state_2» = now («state_2» .entry); bands = now (bands .entry) }) x i ⌝ }
+{
+    let end = i + 4;
+    let mut j = i;
+    while j < end {
+        let k = Mode {
+            g: g[j],
+            r_plus_g: r_plus_g[j],
+            h: h[j],
+            gain: gain[j],
+        };
+        let s = ResonatorSvf {
+            state_1: state_1[j],
+            state_2: state_2[j],
+        };
+        let t = tick_at(true, k, s, x);
+        state_1[j] = t.svf.state_1;
+        state_2[j] = t.svf.state_2;
+        bands[j] = scale(true, k.gain, t.bp);
+        j += 1;
+    }
+}
+
+// The one or the other.
+fn tick_four_at(
+    g: &[f32; 24],
+    r_plus_g: &[f32; 24],
+    h: &[f32; 24],
+    gain: &[f32; 24],
+    state_1: &mut [f32; 24],
+    state_2: &mut [f32; 24],
+    bands: &mut [f32; 24],
+    x: f32,
+    i: usize,
+)
+    requires { ⌜ i + 4 ≤ 24 ⌝ }
+    ensures { λ _. ⌜ record { «state_1» = now («state_1» .exit); «state_2» = now («state_2» .exit); bands = now (bands .exit) } ≡ placesOf 4 (record { g = now (g .entry); «r_plus_g» = now («r_plus_g» .entry); h = now (h .entry); gain = now (gain .entry) }) (record { «state_1» = now («state_1» .entry); «state_2» = now («state_2» .entry); bands = now (bands .entry) }) x i ⌝ }
+{
+    if any_small(state_1, state_2, i) {
+        tick_four_small(g, r_plus_g, h, gain, state_1, state_2, bands, x, i);
+        return;
+    }
+    tick_four(g, r_plus_g, h, gain, state_1, state_2, bands, x, i);
+}
+
+// `tick_all`, four modes at a time, for a block whose modes have died away in part.
+fn tick_fours(
+    g: &[f32; 24],
+    r_plus_g: &[f32; 24],
+    h: &[f32; 24],
+    gain: &[f32; 24],
+    state_1: &mut [f32; 24],
+    state_2: &mut [f32; 24],
+    bands: &mut [f32; 24],
+    x: f32,
+)
+    requires { ⌜ (length (now «state_1») ≡ 24) × (length (now «state_2») ≡ 24) × (length (now bands) ≡ 24) ⌝ }
+    ensures { λ _. ⌜ record { «state_1» = now («state_1» .exit); «state_2» = now («state_2» .exit); bands = now (bands .exit) } ≡ bandsOf (record { g = now (g .entry); «r_plus_g» = now («r_plus_g» .entry); h = now (h .entry); gain = now (gain .entry) }) (now («state_1» .entry)) (now («state_2» .entry)) x ⌝ }
+{
+    let mut i = 0;
+    while i < 24 {
+        tick_four_at(g, r_plus_g, h, gain, state_1, state_2, bands, x, i);
+        i += 4;
+    }
+}
+
+// A sample through all modes; where it is small, some modes may be too.
+pub fn tick_frame(
+    g: &[f32; 24],
+    r_plus_g: &[f32; 24],
+    h: &[f32; 24],
+    gain: &[f32; 24],
+    state_1: &mut [f32; 24],
+    state_2: &mut [f32; 24],
+    bands: &mut [f32; 24],
+    x: f32,
+)
+    requires { ⌜ (length (now «state_1») ≡ 24) × (length (now «state_2») ≡ 24) × (length (now bands) ≡ 24) ⌝ }
+    ensures { λ _. ⌜ record { «state_1» = now («state_1» .exit); «state_2» = now («state_2» .exit); bands = now (bands .exit) } ≡ bandsOf (record { g = now (g .entry); «r_plus_g» = now («r_plus_g» .entry); h = now (h .entry); gain = now (gain .entry) }) (now («state_1» .entry)) (now («state_2» .entry)) x ⌝ }
+{
+    if (x < 1.0e-35) & (x > -1.0e-35) {
+        tick_fours(g, r_plus_g, h, gain, state_1, state_2, bands, x);
+        return;
+    }
+    tick_all(g, r_plus_g, h, gain, state_1, state_2, bands, x);
 }
 
 // The sum of the batch b.

@@ -70,8 +70,8 @@ slice-read-aux c = omega (arith, c .before .before .before .before .loop .inv .7
 slice-write-aux : tie.Need-slice-write-aux Inv-loop μ-loop
 slice-write-aux c = omega (arith, c .before .before .before .before .loop .inv .7, c .before .before .before .loop-test)
 
-tick-all-requires : tie.Need-tick-all-requires Inv-loop μ-loop
-tick-all-requires c κs = let v = c .before .before .before .before .before .before .before .before .before .before .before .loop .inv in (v .4, v .5, v .6)
+tick-frame-requires : tie.Need-tick-frame-requires Inv-loop μ-loop
+tick-frame-requires c κs = let v = c .before .before .before .before .before .before .before .before .before .before .before .loop .inv in (v .4, v .5, v .6)
 
 mul-add-batches : tie.Need-mul-add-batches Inv-loop μ-loop
 mul-add-batches c = omega (arith, c .before .before .before .before .before .before .before .before .before .before .before .before .loop .inv .7, c .before .before .before .before .before .before .before .before .before .before .before .loop-test)
@@ -103,7 +103,7 @@ loop-again c =
     let t = getD (now (a .temp)) (l .i) nan in
     let y = getD (l .out) (l .i) nan in
     let e = at-frame (a .k) (l .filter) (now (a .temp)) (l .i) (v .3) lt in
-    let p = c .before .before .before .tick-all .ensures in
+    let p = c .before .before .before .tick-frame .ensures in
     let z = bands-sizes (a .m) (l .state-1) (l .state-2) (l .ahead .x) p in (
       scan-turn nan nan (v .0) (omega (arith, v .7, lt)) e,
       scan-turn nan nan (v .1) (omega (arith, v .7, lt)) (aux-frame (a .k) (l .filter) t (getD (l .aux) (l .i) nan) e),
@@ -156,7 +156,7 @@ sound-frames-spec =
     mul-aux
     slice-read-aux
     slice-write-aux
-    tick-all-requires
+    tick-frame-requires
     mul-add-batches
     slice-read-add-batches
     add-batches-requires
