@@ -30,8 +30,9 @@ use Rattle.claims.specs.Ledger.{entry}
 use Rattle.claims.proofs.Acts.{Ok, Follows, led-of, act-law}
 use Rattle.bank_abi.proofs.Parts.{bank-after}
 use Rattle.bank_abi.proofs.Little.{length-slot-bytes}
-use Rattle.bank_abi.proofs.Back.{Numbers, decode-encode}
+use Rattle.bank_abi.proofs.Back.{decode-encode}
 use Rattle.bank_abi.specs.Layout.{SlotF32, decodeSlot, encodeSlot}
+use Rattle.bank_abi.specs.Claims.{Numbers}
 use Rattle.bank_abi.specs.Crossing.{parts, decodeBank, badFlags, isBank, badBytes, withBytes, Crossing, worldOf, Crossed, crossBy, crossDef, numbersOf, decoded, Agrees, Gives}
 
 -- ---- what number 1 leaves of the bytes
