@@ -1,24 +1,24 @@
 -- Encode after decode keeps every word but a NaN's, and another slot's bytes are kept. Assumes nothing.
 use mathlib.Core.Path.{_≡_, refl, sym, _∙_, ap}
-use mathlib.Core.Bool.{Bool, true, false, not, cond}
+use mathlib.Core.Bool.{Bool, true, false, cond}
 use mathlib.Core.List.{List, [], _∷_, _++_}
-use Prim.Native.Nat.{ℕ, zero, suc, _+_, _*_, _/_, _%_, _<_, _≤_, _^_}
+use Prim.Native.Nat.{ℕ, zero, suc, _+_, _*_, _/_, _%_, _<_}
 use native.Mathlib.Omega.{arith}
 use native.Mathlib.Nat.{div-add-mod, div-div-eq-div-mul, mod-lt, mod-eq-of-lt}
 use native.Mathlib.Decide.{decLt}
-use lib.Dec.{T, eqb}
+use lib.Dec.{eqb}
 use lib.ListN.{length, getD}
-use lib.Ieee.{Float, nan, binary32, isNan, nanBits, ofBits, toBits}
+use lib.Ieee.{binary32, nanBits, ofBits, toBits}
 use lib.Ieee.Bits.{toBits-ofBits, nanBits-is}
 use Rattle.utils.specs.Frames.{tab}
-use Rattle.utils.specs.Part.{part, put}
+use Rattle.utils.specs.Part.{part}
 use Rattle.utils.proofs.Tab.{tab-getD}
 use Rattle.utils.proofs.Part.{part-put-below, part-put-above}
 use Rattle.claims.specs.Claim.{Each}
 use Rattle.bank_abi.specs.Words.{wordOf, words, bytes, each}
 use Rattle.bank_abi.specs.Layout.{bits, svfIn, dcIn, stringIn, voiceIn, modeIn, batchIn, modalIn, slotIn, decodeSlot, svfWords, dcWords, stringWords, voiceWords, modeWords, batchWords, floatWords, modalWords, slotWords, flagOf, encodeSlot}
 use Rattle.bank_abi.specs.Crossing.{withBytes}
-use Rattle.bank_abi.specs.Claims.{isNumber, kept, SlotBytes, EncodeDecode, Words, Untouched}
+use Rattle.bank_abi.specs.Claims.{isNumber, kept, EncodeDecode, Words, Untouched}
 use Rattle.bank_abi.proofs.Floats.{is-nan}
 use Rattle.bank_abi.proofs.Back.{Small, tab-same}
 

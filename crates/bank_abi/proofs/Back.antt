@@ -1,28 +1,26 @@
 -- Decode after encode is the identity. Assumes nothing.
-use mathlib.Core.Path.{_≡_, refl, sym, _∙_, ap, subst}
+use mathlib.Core.Path.{_≡_, refl, sym, _∙_, ap}
 use mathlib.Core.Bool.{Bool, true, false}
 use mathlib.Core.List.{List, [], _∷_, _++_, append-assoc, append-nil}
-use Prim.Native.Nat.{ℕ, zero, suc, _+_, _*_, _/_, _%_, _<_, _≤_, _^_}
+use Prim.Native.Nat.{ℕ, zero, suc, _+_, _*_, _/_, _%_, _<_, _^_}
 use native.Mathlib.Omega.{arith}
 use native.Mathlib.Nat.{mul-zero, mul-suc, div-add-mod, div-div-eq-div-mul, div-lt-iff-lt-mul, mod-eq-of-lt}
-use lib.Dec.{T, eqb}
+use lib.Dec.{eqb}
 use lib.ListN.{length, getD, List·getD-append}
 use lib.Seq.{getD-append-add, getD-at}
-use lib.Ieee.{Float, nan, binary32, ofBits, toBits}
+use lib.Ieee.{Float, nan, binary32, ofBits}
 use lib.Ieee.Bits.{ofBits-toBits, toBits-lt}
 use Rattle.utils.specs.Frames.{tab}
 use Rattle.utils.proofs.Tab.{tab-getD}
 use Rattle.utils.specs.declared.filter.Svf.{Svf}
 use Rattle.utils.specs.declared.filter.DcBlocker.{DcBlocker}
 use Rattle.string_voice.specs.declared.string.String.{String}
-use Rattle.string_voice.specs.declared.string_voice.StringVoice.{StringVoice}
 use Rattle.modal_voice.specs.declared.resonator.ResonatorSvf.{ResonatorSvf}
 use Rattle.modal_voice.specs.declared.resonator.Batch.{Batch}
-use Rattle.modal_voice.specs.declared.modal_voice.ModalVoice.{ModalVoice}
 use Rattle.bank.specs.declared.slots.Slot.{Slot}
 use Rattle.claims.specs.Claim.{Each}
 use Rattle.bank_abi.specs.Words.{wordOf, words, bytes, each}
-use Rattle.bank_abi.specs.Layout.{F32, SvfF32, DcF32, StringF32, VoiceF32, ModeF32, BatchF32, All, ModalF32, SlotF32, floatIn, svfIn, dcIn, stringIn, voiceIn, modeIn, batchIn, modalIn, slotIn, decodeSlot, bits, svfWords, dcWords, stringWords, voiceWords, modeWords, batchWords, floatWords, modalWords, slotWords, flagOf, encodeSlot}
+use Rattle.bank_abi.specs.Layout.{F32, SvfF32, DcF32, StringF32, ModeF32, BatchF32, SlotF32, floatIn, svfIn, dcIn, stringIn, voiceIn, modeIn, batchIn, modalIn, slotIn, decodeSlot, bits, svfWords, dcWords, stringWords, voiceWords, modeWords, batchWords, floatWords, modalWords, slotWords, flagOf, encodeSlot}
 use Rattle.bank_abi.specs.Claims.{Numbers, DecodeEncode}
 use Rattle.bank_abi.proofs.Little.{length-bytes, length-floats, length-slot}
 
