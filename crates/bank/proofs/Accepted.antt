@@ -1,5 +1,5 @@
 -- What the table's acceptance tells. Assumes nothing.
-use mathlib.Core.Path.{_≡_, refl, sym, _∙_, ap}
+use mathlib.Core.Path.{_≡_, refl, sym}
 use mathlib.Core.Bool.{Bool, true, false, not, _&&_, _||_}
 use mathlib.Core.List.{List, [], _∷_}
 use Prim.Native.Nat.{ℕ, zero, suc, _<_, _≤_}
@@ -12,7 +12,7 @@ use Rattle.noise.specs.declared.excitation.Knobs.{Knobs}
 use Rattle.modal_voice.specs.OneLoop.{Alike}
 use Rattle.bank.specs.declared.answers.Reason.{Reason}
 use Rattle.bank.specs.declared.answers.Reason.the-variants as R
-use Rattle.bank.specs.declared.answers.Verdict.the-variants.{Accepted, Refused}
+use Rattle.bank.specs.declared.answers.Verdict.the-variants.{Accepted}
 use Rattle.bank.specs.declared.slots.Slot.{Slot}
 use Rattle.bank.specs.declared.slots.Bank.{Bank}
 use Rattle.bank.specs.Slots.{noString, emptySlot, slotAt}
@@ -23,7 +23,7 @@ use Rattle.bank.specs.World.{badSlot, badSlots, bad, Ready}
 true-false : true ≡ false → ⊥
 true-false e = let z : _≡_ {A = ℕ} 0 1 = cc in omega arith
 
-or-false : (a b : Bool) → a || b ≡ false → (a ≡ false) × (b ≡ false)
+pub or-false : (a b : Bool) → a || b ≡ false → (a ≡ false) × (b ≡ false)
 or-false true b e = absurd (true-false e)
 or-false false b e = (refl, e)
 

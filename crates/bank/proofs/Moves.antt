@@ -1,12 +1,12 @@
 -- What an accepted call makes of a slot, and what a call of the bank leaves by the table's word: laws over plain values. Assumes nothing.
-use mathlib.Core.Path.{_≡_, refl, sym, _∙_, ap}
+use mathlib.Core.Path.{_≡_, sym, _∙_, ap}
 use mathlib.Core.Bool.{Bool}
 use mathlib.Core.List.{List, _++_}
 use Prim.Native.Nat.{ℕ, _+_, _-_, _*_}
 use native.Mathlib.Omega.{arith}
-use lib.ListN.{length, take, drop, take-append-drop}
+use lib.ListN.{take, drop, take-append-drop}
 use lib.Ieee.{Float}
-use Rattle.utils.specs.Draw.{Draw, Ran, run}
+use Rattle.utils.specs.Draw.{Ran, run}
 use Rattle.utils.specs.Part.{part, put}
 use Rattle.utils.proofs.Draw.{run-then}
 use Rattle.noise.specs.declared.excitation.Knobs.{Knobs}

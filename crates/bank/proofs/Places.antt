@@ -1,9 +1,9 @@
 -- The eight slots and their parts of line memory. Assumes nothing.
-use mathlib.Core.Path.{_≡_, refl, sym, _∙_, ap}
+use mathlib.Core.Path.{_≡_, refl, sym, ap}
 use mathlib.Core.List.{List, [], _∷_}
 use Prim.Native.Nat.{ℕ, zero, suc, _<_, _≤_, _+_, _-_, _*_}
 use native.Mathlib.Omega.{arith}
-use lib.ListN.{length, getD, take, drop, length-take, length-drop}
+use lib.ListN.{length, getD, List·getD-eq-default, take, drop, length-take, length-drop}
 use lib.Ieee.{Float}
 use Rattle.utils.specs.F32.{c0}
 use Rattle.bank.specs.declared.slots.Slot.{Slot}
@@ -17,12 +17,6 @@ pub getD-any : {A : Type 0} (l : List A) (i : ℕ) (d e : A) → i < length l �
 getD-any [] i d e h = absurd (omega arith)
 getD-any (x ∷ xs) zero d e h = refl
 getD-any (x ∷ xs) (suc i) d e h = getD-any xs i d e (omega arith)
-
--- and past the end stands the other
-pub getD-past : {A : Type 0} (l : List A) (i : ℕ) (d : A) → length l ≤ i → getD l i d ≡ d
-getD-past [] i d h = refl
-getD-past (x ∷ xs) zero d h = absurd (omega arith)
-getD-past (x ∷ xs) (suc i) d h = getD-past xs i d (omega arith)
 
 -- an opening by the kind
 pub as-string : (kind : ℕ) (rate : Float) (lines : List Float) {q : Slot × List Float} → kind ≡ 1 → q ≡ openedOn 1 rate lines → q ≡ openedOn kind rate lines
@@ -52,4 +46,4 @@ kind-any b slot d h = ap (λ (x : Slot). x .kind) (getD-any (b .slots) slot d em
 
 pub kind-none : (b : Bank) (slot : ℕ) → length (b .slots) ≤ slot → 0 ≡ slotAt b slot .kind
 unfolding emptySlot
-kind-none b slot h = sym (ap (λ (x : Slot). x .kind) (getD-past (b .slots) slot emptySlot h))
+kind-none b slot h = sym (ap (λ (x : Slot). x .kind) (List·getD-eq-default (b .slots) emptySlot h))

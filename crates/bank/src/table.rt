@@ -1,11 +1,10 @@
 // 01's table of refusals: the checks of each call, in its order.
 ghost use mathlib.Core.Path.{_≡_};
 ghost use Prim.Native.Nat.{ℕ};
-ghost use lib.ListN.{length};
 ghost use lib.Dec.{eqb};
 ghost use mathlib.Core.Bool.{_||_};
-ghost use Rattle.bank.specs.Calls.{Bufs, opening, reset, render};
-ghost use Rattle.bank.specs.Table.{Call, first, within, alike, knobChecks, verdict};
+ghost use Rattle.bank.specs.Calls.{opening, reset, render};
+ghost use Rattle.bank.specs.Table.{first, within, alike, knobChecks, verdict};
 ghost use Rattle.bank.specs.World.{badSlot, badSlots, bad};
 use crate::answers::Knob;
 use crate::answers::Reason;

@@ -1,33 +1,32 @@
--- Decode after encode is the identity, and encode after decode keeps every word but a NaN's. Assumes nothing.
-use mathlib.Core.Path.{_≡_, refl, sym, _∙_, ap, subst}
+-- Decode after encode is the identity. Assumes nothing.
+use mathlib.Core.Path.{_≡_, refl, sym, _∙_, ap}
 use mathlib.Core.Bool.{Bool, true, false}
 use mathlib.Core.List.{List, [], _∷_, _++_, append-assoc, append-nil}
-use Prim.Native.Nat.{ℕ, zero, suc, _+_, _*_, _/_, _%_, _<_, _≤_, _^_}
+use Prim.Native.Nat.{ℕ, zero, suc, _+_, _*_, _/_, _%_, _<_, _^_}
 use native.Mathlib.Omega.{arith}
 use native.Mathlib.Nat.{mul-zero, mul-suc, div-add-mod, div-div-eq-div-mul, div-lt-iff-lt-mul, mod-eq-of-lt}
-use lib.Dec.{T, eqb}
+use lib.Dec.{eqb}
 use lib.ListN.{length, getD, List·getD-append}
 use lib.Seq.{getD-append-add, getD-at}
-use lib.Ieee.{Float, nan, binary32, ofBits, toBits}
+use lib.Ieee.{Float, nan, binary32, ofBits}
 use lib.Ieee.Bits.{ofBits-toBits, toBits-lt}
 use Rattle.utils.specs.Frames.{tab}
 use Rattle.utils.proofs.Tab.{tab-getD}
 use Rattle.utils.specs.declared.filter.Svf.{Svf}
 use Rattle.utils.specs.declared.filter.DcBlocker.{DcBlocker}
 use Rattle.string_voice.specs.declared.string.String.{String}
-use Rattle.string_voice.specs.declared.string_voice.StringVoice.{StringVoice}
 use Rattle.modal_voice.specs.declared.resonator.ResonatorSvf.{ResonatorSvf}
 use Rattle.modal_voice.specs.declared.resonator.Batch.{Batch}
-use Rattle.modal_voice.specs.declared.modal_voice.ModalVoice.{ModalVoice}
 use Rattle.bank.specs.declared.slots.Slot.{Slot}
 use Rattle.claims.specs.Claim.{Each}
 use Rattle.bank_abi.specs.Words.{wordOf, words, bytes, each}
-use Rattle.bank_abi.specs.Layout.{F32, SvfF32, DcF32, StringF32, VoiceF32, ModeF32, BatchF32, All, ModalF32, SlotF32, floatIn, svfIn, dcIn, stringIn, voiceIn, modeIn, batchIn, modalIn, slotIn, decodeSlot, bits, svfWords, dcWords, stringWords, voiceWords, modeWords, batchWords, floatWords, modalWords, slotWords, flagOf, encodeSlot}
+use Rattle.bank_abi.specs.Layout.{F32, SvfF32, DcF32, StringF32, ModeF32, BatchF32, SlotF32, floatIn, svfIn, dcIn, stringIn, voiceIn, modeIn, batchIn, modalIn, slotIn, decodeSlot, bits, svfWords, dcWords, stringWords, voiceWords, modeWords, batchWords, floatWords, modalWords, slotWords, flagOf, encodeSlot}
+use Rattle.bank_abi.specs.Claims.{Numbers, DecodeEncode}
 use Rattle.bank_abi.proofs.Little.{length-bytes, length-floats, length-slot}
 
 -- ---- the words of the bytes of words
 
-abbrev Small : ℕ → Type 0
+abbrev pub Small : ℕ → Type 0
 Small w = w < 2 ^ 32
 
 four : (w : ℕ) → Small w → wordOf (w % 256) (w / 256 % 256) (w / 65536 % 256) (w / 16777216 % 256) ≡ w
@@ -62,13 +61,6 @@ back : (x : Float) → F32 x → ofBits binary32 (bits x) ≡ x
 back x f = ofBits-toBits binary32 x f
 
 -- ---- every word of a slot is one of 32 bits
-
--- its numbers are
-pub record Numbers (s : Slot) : Type 0 where
-  pub kind : s .kind < 2 ^ 32
-  pub string : s .string .string .string < 2 ^ 32
-  pub stretch : s .string .string .stretch < 2 ^ 32
-  pub left : s .string .«remaining_noise_samples» < 2 ^ 32
 
 svf-small : (s : Svf) → SvfF32 s → Each Small (svfWords s)
 unfolding svfWords
@@ -134,7 +126,7 @@ module _ {A : Type 0} (f : A → List ℕ) (n : ℕ) (sized : (x : A) → length
       ∙ getD-append-add (f x) (each f xs ++ rest) (n * i + j) 0
       ∙ each-at xs rest i j (n * i + j) d refl (omega arith) g
 
-tab-same : {X : Type 0} (n : ℕ) (f g : ℕ → X) → ((i : ℕ) → i < n → f i ≡ g i) → tab n f ≡ tab n g
+pub tab-same : {X : Type 0} (n : ℕ) (f g : ℕ → X) → ((i : ℕ) → i < n → f i ≡ g i) → tab n f ≡ tab n g
 unfolding tab
 tab-same zero f g h = refl
 tab-same (suc n) f g h = λ i. h 0 (omega arith) i ∷ tab-same n (λ j. f (suc j)) (λ j. g (suc j)) (λ j l. h (suc j) (omega arith)) i
@@ -263,13 +255,14 @@ module _ (s : Slot) (f : SlotF32 s) where
         };
       }
 
-  -- decode after encode
-  pub decode-encode : Numbers s → decodeSlot (encodeSlot s) ≡ s
-  unfolding decodeSlot encodeSlot
-  decode-encode n =
-      let v = flagOf (s .modal .held) in
-      let l : length (bytes ws) ≡ 392 = length-bytes ws ∙ ap (λ (m : ℕ). 4 * m) (length-slot s (f .1)) in
-      ap (λ (q : List ℕ). slotIn q (eqb (getD (bytes ws ++ (v ∷ [])) 392 0) 1)) (words-of ws v (slot-small s n f))
-      ∙ ap (λ (q : ℕ). slotIn ws (eqb q 1)) (getD-at (bytes ws) v [] 0 392 l)
-      ∙ ap (λ (q : Bool). slotIn ws q) (flag-back (s .modal .held))
-      ∙ slot-back
+-- decode after encode
+pub decode-encode : DecodeEncode
+unfolding decodeSlot encodeSlot
+decode-encode s f n =
+    let ws = slotWords s in
+    let v = flagOf (s .modal .held) in
+    let l : length (bytes ws) ≡ 392 = length-bytes ws ∙ ap (λ (m : ℕ). 4 * m) (length-slot s (f .1)) in
+    ap (λ (q : List ℕ). slotIn q (eqb (getD (bytes ws ++ (v ∷ [])) 392 0) 1)) (words-of ws v (slot-small s n f))
+    ∙ ap (λ (q : ℕ). slotIn ws (eqb q 1)) (getD-at (bytes ws) v [] 0 392 l)
+    ∙ ap (λ (q : Bool). slotIn ws q) (flag-back (s .modal .held))
+    ∙ slot-back s f

@@ -1,26 +1,23 @@
 -- What a call on bytes leaves, by the table's word, and that it is the bank's call on the decoded bank. Assumes nothing.
 use mathlib.Core.Path.{_≡_, refl, sym, _∙_, ap, subst}
 use mathlib.Core.Bool.{Bool, true, false, not, _&&_, _||_, false≢true}
-use mathlib.Core.List.{List, [], _∷_, map}
-use Prim.Native.Nat.{ℕ, zero, suc, _+_, _-_, _*_, _<_, _≤_}
+use mathlib.Core.List.{List}
+use Prim.Native.Nat.{ℕ, _-_, _*_, _<_}
 use native.Mathlib.Omega.{arith}
 use lib.Dec.{eqb}
-use lib.ListN.{length, take, drop, set}
+use lib.ListN.{length}
 use lib.Ieee.{Float}
 use borrow.Author.Tests.{eqb-true}
-use Rattle.utils.specs.Part.{put}
-use Rattle.noise.specs.declared.excitation.Counts.{Counts}
 use Rattle.bank.specs.declared.answers.Reason.{Reason}
 use Rattle.bank.specs.declared.answers.Verdict.{Verdict}
 use Rattle.bank.specs.declared.answers.Verdict.the-variants.{Accepted, Refused}
 use Rattle.bank.specs.declared.slots.Slot.{Slot}
-use Rattle.bank.specs.declared.slots.Bank.{Bank}
-use Rattle.bank.specs.Answers.{noCounts, reasonNumber, numberOf, countsOf}
+use Rattle.bank.specs.Answers.{noCounts, reasonNumber}
 use Rattle.bank.specs.Slots.{slotAt, withSlot}
-use Rattle.bank.specs.Calls.{Act, Bufs, lent}
+use Rattle.bank.specs.Calls.{Act, lent}
 use Rattle.bank.specs.Table.{Call, first, checks, verdict}
-use Rattle.bank.specs.World.{World, Event, bad, Moved, movedBy, callBy, callDef}
-use Rattle.bank.proofs.Accepted.{Sound, Whole, whole, Begun, begun}
+use Rattle.bank.specs.World.{bad, Moved, movedBy, callBy, callDef}
+use Rattle.bank.proofs.Accepted.{or-false, Sound, whole, begun}
 use Rattle.utils.proofs.Part.{length-part}
 use Rattle.utils.proofs.Draw.{always-run, draws-always}
 use Rattle.bank.specs.Calls.{Voice, actDef}
@@ -30,19 +27,16 @@ use Rattle.claims.specs.Ledger.{entry}
 use Rattle.claims.proofs.Acts.{Ok, Follows, led-of, act-law}
 use Rattle.bank_abi.proofs.Parts.{bank-after}
 use Rattle.bank_abi.proofs.Little.{length-slot-bytes}
-use Rattle.bank_abi.proofs.Back.{Numbers, decode-encode}
-use Rattle.bank_abi.specs.Layout.{SlotF32, decodeSlot, encodeSlot}
-use Rattle.bank_abi.specs.Crossing.{parts, decodeBank, badFlags, isBank, badBytes, withBytes, Crossing, worldOf, Crossed, crossBy, crossDef, numbersOf, decoded, Agrees, Gives}
+use Rattle.bank_abi.proofs.Back.{decode-encode}
+use Rattle.bank_abi.specs.Layout.{SlotF32, encodeSlot}
+use Rattle.bank_abi.specs.Claims.{Numbers}
+use Rattle.bank_abi.specs.Crossing.{parts, decodeBank, badFlags, isBank, badBytes, withBytes, Crossing, worldOf, crossBy, crossDef, numbersOf, decoded, Gives}
 
 -- ---- what number 1 leaves of the bytes
 
 record Good (bs : List ℕ) (mem : List Float) : Type 0 where
   size : length bs ≡ 3144
   bank : bad (decodeBank bs) mem ≡ false
-
-or-false : (a b : Bool) → a || b ≡ false → (a ≡ false) × (b ≡ false)
-or-false true b e = absurd (false≢true (sym e))
-or-false false b e = (refl, e)
 
 and-not : (a b : Bool) → not (a && b) ≡ false → a ≡ true
 and-not true b e = refl

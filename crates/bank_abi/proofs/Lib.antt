@@ -3,5 +3,6 @@ pub mod Little
 pub mod Floats
 pub mod Parts
 pub mod Back
+pub mod Again
 pub mod Crosses
 pub mod Zeros

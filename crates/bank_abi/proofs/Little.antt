@@ -1,12 +1,12 @@
 -- Words in bytes: what is read, what is written, and words written one after the other. Assumes nothing.
 use mathlib.Core.Path.{_≡_, refl, sym, _∙_, ap, subst}
 use mathlib.Core.List.{List, [], _∷_, _++_, append-assoc, append-nil}
-use Prim.Native.Nat.{ℕ, zero, suc, _+_, _*_, _/_, _%_, _<_, _≤_, _^_}
+use Prim.Native.Nat.{ℕ, zero, suc, _+_, _*_, _/_, _%_, _<_, _≤_}
 use native.Mathlib.Omega.{arith}
 use native.Mathlib.Nat.{mul-zero, mul-suc, add-comm}
 use native.Mathlib.Numerals.{add-one}
 use lib.ListN.{length, getD, take, drop, set, length-append, length-take, length-drop, take-append-drop, drop-of-length-le}
-use lib.Seq.{set-at, drop-cons, take-at, drop-at, drop-append-add, length-take-le, drop-drop, take-all, take-suc, sets, sets-eq}
+use lib.Seq.{set-at, drop-cons, take-at, drop-at, length-take-le, drop-drop, take-all, take-suc, sets, sets-eq}
 use Rattle.utils.specs.Part.{put}
 use lib.Ieee.{Float}
 use Rattle.string_voice.specs.declared.string_voice.StringVoice.{StringVoice}

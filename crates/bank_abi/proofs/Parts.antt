@@ -1,21 +1,18 @@
 -- The bytes of eight slots: a slot's part, the bank that they decode to, and number 1 read off them. Assumes nothing.
 use mathlib.Core.Path.{_≡_, refl, sym, _∙_, ap}
-use mathlib.Core.Bool.{Bool, true, false, not, _&&_, _||_, false≢true}
+use mathlib.Core.Bool.{Bool, true, false, not, _||_}
 use mathlib.Core.List.{List, [], _∷_, _++_, map, append-assoc}
 use Prim.Native.Nat.{ℕ, zero, suc, _+_, _-_, _*_, _<_, _≤_}
 use native.Mathlib.Omega.{arith}
 use native.Mathlib.Numerals.{add-one}
 use lib.Dec.{eqb}
-use lib.ListN.{length, getD, take, drop, set, length-take, length-drop, length-map, take-append-drop, drop-of-length-le}
+use lib.ListN.{length, getD, List·getD-eq-default, take, drop, set, length-take, length-drop, length-map, take-append-drop, drop-of-length-le}
 use lib.Seq.{take-at, drop-at, take-append-add, drop-append-add, length-take-le, drop-drop, drop-cons}
 use lib.Ieee.{Float}
-use borrow.Author.Tests.{eqb-true, eq-eqb}
 use Rattle.utils.specs.Part.{part, put}
 use Rattle.bank.specs.declared.slots.Slot.{Slot}
-use Rattle.bank.specs.declared.slots.Bank.{Bank}
-use Rattle.bank.specs.Slots.{emptySlot, noString, slotAt, withSlot}
+use Rattle.bank.specs.Slots.{emptySlot, slotAt, withSlot}
 use Rattle.bank.specs.World.{badSlot, badSlots, bad}
-use Rattle.bank.proofs.Places.{getD-any, getD-past}
 use Rattle.bank_abi.specs.Words.{words}
 use Rattle.bank_abi.specs.Layout.{decodeSlot, slotIn}
 use Rattle.bank_abi.specs.Crossing.{parts, decodeBank, badFlag, badFlags, isBank, badBytes, withBytes}
@@ -72,7 +69,7 @@ unfolding decodeBank emptySlot
 slot-none bs slot h =
     let l = length-parts 8 bs in
     let m = length-map (parts 8 bs) decodeSlot in
-    sym (ap (λ (x : Slot). x .kind) (getD-past (map decodeSlot (parts 8 bs)) slot emptySlot (omega arith)))
+    sym (ap (λ (x : Slot). x .kind) (List·getD-eq-default (map decodeSlot (parts 8 bs)) emptySlot (omega arith)))
 
 -- ---- number 1
 

@@ -2,3 +2,4 @@
 pub mod Words
 pub mod Layout
 pub mod Crossing
+pub mod Claims

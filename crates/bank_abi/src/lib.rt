@@ -4,9 +4,8 @@ ghost use Prim.Native.Nat.{ℕ};
 ghost use lib.ListN.{length};
 ghost use Rattle.bank.specs.Slots.{fresh};
 ghost use Rattle.bank.specs.Answers.{noCounts};
-ghost use Rattle.bank.specs.Calls.{Bufs, opening, reset, render, lent};
-ghost use Rattle.bank.specs.Table.{Call};
-ghost use Rattle.bank_abi.specs.Crossing.{encodeBank, freshDef, Crossing, Crossed, Gives};
+ghost use Rattle.bank.specs.Calls.{opening, reset, render, lent};
+ghost use Rattle.bank_abi.specs.Crossing.{encodeBank, freshDef, Gives};
 
 pub mod decode;
 pub mod encode;

@@ -4,7 +4,7 @@ use Rattle.bank.specs.Calls.{opening}
 use Rattle.bank_abi.specs.Crossing.{decodeBank}
 use Rattle.bank.specs.Slots.{slotAt}
 use Rattle.bank_abi.proofs.Crosses.{decided, taken, refused, accepted}
-use mathlib.Core.Path.{_≡_, refl, sym, _∙_, ap}
+use mathlib.Core.Path.{refl}
 use denote.Ref.{now}
 use borrow.Author.Needs.{needs}
 use Rattle.bank_abi.proofs.bleidhvan_open.Statement.{statement}

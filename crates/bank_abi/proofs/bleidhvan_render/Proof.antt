@@ -6,7 +6,7 @@ use Rattle.noise.specs.declared.excitation.Knobs.{Knobs}
 use Rattle.bank_abi.specs.Crossing.{decodeBank}
 use Rattle.bank.specs.Slots.{slotAt}
 use Rattle.bank_abi.proofs.Crosses.{decided, taken, refused, accepted}
-use mathlib.Core.Path.{_≡_, refl, sym, _∙_, ap}
+use mathlib.Core.Path.{ap}
 use denote.Ref.{now}
 use borrow.Author.Needs.{needs}
 use Rattle.bank_abi.proofs.bleidhvan_render.Statement.{statement}

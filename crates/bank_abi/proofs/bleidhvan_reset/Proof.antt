@@ -1,9 +1,6 @@
 -- `bleidhvan_reset` meets its contract: the table decides.
 use Rattle.bank.specs.Calls.{reset}
-use Rattle.bank_abi.specs.Crossing.{decodeBank}
-use Rattle.bank.specs.Slots.{slotAt}
 use Rattle.bank_abi.proofs.Crosses.{decided, taken, refused, accepted}
-use mathlib.Core.Path.{_≡_, refl, sym, _∙_, ap}
 use denote.Ref.{now}
 use borrow.Author.Needs.{needs}
 use Rattle.bank_abi.proofs.bleidhvan_reset.Statement.{statement}

@@ -3,7 +3,7 @@ use Rattle.bank.specs.Slots.{slotAt}
 use Rattle.bank.specs.Calls.{opening}
 use Rattle.bank.proofs.Accepted.{whole, begun, asked}
 use Rattle.bank.proofs.Moves.{decided, refused-left, accepted-left, given-back}
-use mathlib.Core.Path.{refl, sym, _∙_, ap}
+use mathlib.Core.Path.{refl}
 use denote.Ref.{now}
 use borrow.Author.Needs.{needs}
 use Rattle.bank.proofs.calls.open.Statement.{statement}

@@ -3,7 +3,7 @@ use Rattle.bank.specs.Slots.{slotAt}
 use Rattle.bank.specs.Calls.{Bufs, render}
 use Rattle.bank.proofs.Accepted.{whole, begun, ready, alike-lent}
 use Rattle.bank.proofs.Moves.{decided, refused-left, accepted-left}
-use mathlib.Core.Path.{refl, sym, _∙_, ap}
+use mathlib.Core.Path.{ap}
 use denote.Ref.{now}
 use borrow.Author.Needs.{needs}
 use Rattle.bank.proofs.calls.render.Statement.{statement}

@@ -3,7 +3,6 @@ use Rattle.bank.specs.Slots.{slotAt}
 use Rattle.bank.specs.Calls.{reset}
 use Rattle.bank.proofs.Accepted.{whole, begun}
 use Rattle.bank.proofs.Moves.{decided, refused-left, accepted-left, given-back}
-use mathlib.Core.Path.{refl, sym, _∙_, ap}
 use denote.Ref.{now}
 use borrow.Author.Needs.{needs}
 use Rattle.bank.proofs.calls.reset.Statement.{statement}

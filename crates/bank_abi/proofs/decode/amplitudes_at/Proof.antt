@@ -4,8 +4,8 @@ use Rattle.bank_abi.specs.Layout.{floatIn}
 use Rattle.bank_abi.specs.Words.{words}
 use Rattle.utils.proofs.Tab.{Stored, stored-begin, stored-turn, stored-end}
 use lib.ListN.{length}
-use Prim.Native.Nat.{_+_, _*_, _-_, _≤_}
-use mathlib.Core.Path.{_≡_, refl, sym, ap, _∙_}
+use Prim.Native.Nat.{_+_, _-_, _≤_}
+use mathlib.Core.Path.{_≡_, refl, sym}
 use native.Mathlib.Omega.{arith}
 use Rattle.bank_abi.proofs.decode.amplitudes_at.Statement.{statement}
 use Rattle.bank_abi.proofs.decode.amplitudes_at.Tie as tie

@@ -10,8 +10,8 @@ use Rattle.bank_abi.proofs.Little.{Written, written-begin, written-turn
 use lib.ListN.{length}
 use lib.Ieee.{Float, nan}
 use borrow.Author.Needs.{needs}
-use Prim.Native.Nat.{_+_, _*_, _-_, _≤_}
-use mathlib.Core.Path.{_≡_, refl, sym, ap, _∙_}
+use Prim.Native.Nat.{_-_, _≤_}
+use mathlib.Core.Path.{_≡_, refl}
 use native.Mathlib.Omega.{arith}
 use Rattle.bank_abi.proofs.encode.put_amplitudes.Statement.{statement}
 use Rattle.bank_abi.proofs.encode.put_amplitudes.Tie as tie

@@ -6,8 +6,8 @@ use Rattle.bank_abi.proofs.Little.{Written, written-begin, written-turn
 use lib.ListN.{length}
 use Rattle.modal_voice.specs.declared.resonator.Batch.{Batch}
 use borrow.Author.Needs.{needs}
-use Prim.Native.Nat.{_+_, _*_, _-_, _≤_}
-use mathlib.Core.Path.{_≡_, refl, sym, ap, _∙_}
+use Prim.Native.Nat.{_-_, _≤_}
+use mathlib.Core.Path.{_≡_, refl}
 use native.Mathlib.Omega.{arith}
 use Rattle.bank_abi.proofs.encode.put_filters.Statement.{statement}
 use Rattle.bank_abi.proofs.encode.put_filters.Tie as tie

@@ -1,7 +1,6 @@
 -- `encode::put_modal` meets its contract.
 use denote.Ref.{now}
 use Rattle.bank_abi.proofs.Little.{modal-wrote}
-use native.Mathlib.Omega.{arith}
 use borrow.Author.Needs.{needs}
 use Rattle.bank_abi.proofs.encode.put_modal.Statement.{statement}
 use Rattle.bank_abi.proofs.encode.put_modal.Tie as tie

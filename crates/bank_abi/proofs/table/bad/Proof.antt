@@ -2,7 +2,6 @@
 use Rattle.bank_abi.proofs.Parts.{other-length, other-lines, by-slots}
 use borrow.Author.Tests.{eq-eqb, ne-eqb}
 use mathlib.Core.Path.{_∙_}
-use denote.Ref.{now}
 use borrow.Author.Needs.{needs}
 use Rattle.bank_abi.proofs.table.bad.Statement.{statement}
 use Rattle.bank_abi.proofs.table.bad.Tie as tie

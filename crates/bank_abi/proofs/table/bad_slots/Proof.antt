@@ -4,7 +4,6 @@ use Rattle.bank_abi.specs.Crossing.{parts, decodeBank}
 use lib.ListN.{drop, length-take, length-drop}
 use Prim.Native.Nat.{_-_, _≤_}
 use mathlib.Core.Path.{_≡_, refl}
-use borrow.Author.Needs.{needs}
 use denote.Ref.{now}
 use native.Mathlib.Omega.{arith}
 use Rattle.bank_abi.proofs.table.bad_slots.Statement.{statement}

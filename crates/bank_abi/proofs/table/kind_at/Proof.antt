@@ -1,7 +1,7 @@
 -- `table::kind_at` meets its contract.
 use Rattle.bank_abi.proofs.Parts.{kind-cut, slot-none}
 use lib.ListN.{length-take, length-drop}
-use mathlib.Core.Path.{_≡_, sym, _∙_, ap}
+use mathlib.Core.Path.{_∙_}
 use denote.Ref.{now}
 use native.Mathlib.Omega.{arith}
 use borrow.Author.Needs.{needs}

@@ -4,8 +4,8 @@ use denote.Ref.{now}
 use Rattle.bank_abi.specs.Layout.{floatWords}
 use Rattle.bank_abi.specs.Words.{putWords}
 use Prim.Native.Nat.{ℕ}
-use mathlib.Core.List.{List, [], _∷_}
-use mathlib.Core.Path.{_≡_, _∙_, ap}
+use mathlib.Core.List.{[], _∷_}
+use mathlib.Core.Path.{_∙_, ap}
 use borrow.Author.Needs.{needs}
 use Rattle.bank_abi.proofs.words.put_float.Statement.{statement}
 use Rattle.bank_abi.proofs.words.put_float.Tie as tie

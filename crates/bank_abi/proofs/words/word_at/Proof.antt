@@ -1,7 +1,6 @@
 -- `words::word_at` meets its contract.
 use denote.Ref.{now}
 use Rattle.bank_abi.proofs.Little.{word-at}
-use mathlib.Core.Path.{_∙_}
 use native.Mathlib.Omega.{arith}
 use borrow.Author.Needs.{needs}
 use Rattle.bank_abi.proofs.words.word_at.Statement.{statement}
