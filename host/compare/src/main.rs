@@ -4,7 +4,7 @@ use std::process::ExitCode;
 
 const USAGE: &str = "usage: compare [--seed N] [--blocks N]
   --seed N     the run's number, from which all lists are drawn (1)
-  --blocks N   so many accepted renders are compared at least (200000)";
+  --blocks N   so many blocks are heard on both sides at least (200000)";
 
 #[cfg(no_plaits)]
 fn main() -> ExitCode {
@@ -44,7 +44,7 @@ fn compare(seed: u32, blocks: u64) -> ExitCode {
     use compare::{list::List, run};
     let mut tally = run::Tally::default();
     let mut number = 0;
-    while tally.blocks < blocks {
+    while tally.heard < blocks {
         if let Err(difference) = run::run(List::new(seed, number), &mut tally) {
             let run::Difference { call, text } = difference;
             println!("compare: seed {seed}, list {number}, call {call}: {text}");
