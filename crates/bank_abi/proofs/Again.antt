@@ -1,26 +1,29 @@
--- Encode after decode keeps every word but a NaN's, and another slot's bytes are kept. Assumes nothing.
+-- Encode after decode keeps every word but a NaN's, another slot's bytes are kept, and a whole bank decodes back. Assumes nothing.
 use mathlib.Core.Path.{_≡_, refl, sym, _∙_, ap}
 use mathlib.Core.Bool.{Bool, true, false, cond}
-use mathlib.Core.List.{List, [], _∷_, _++_}
+use mathlib.Core.List.{List, [], _∷_, _++_, map}
 use Prim.Native.Nat.{ℕ, zero, suc, _+_, _*_, _/_, _%_, _<_}
 use native.Mathlib.Omega.{arith}
 use native.Mathlib.Nat.{div-add-mod, div-div-eq-div-mul, mod-lt, mod-eq-of-lt}
 use native.Mathlib.Decide.{decLt}
 use lib.Dec.{eqb}
 use lib.ListN.{length, getD}
+use lib.Seq.{take-at, drop-at}
 use lib.Ieee.{binary32, nanBits, ofBits, toBits}
 use lib.Ieee.Bits.{toBits-ofBits, nanBits-is}
 use Rattle.utils.specs.Frames.{tab}
 use Rattle.utils.specs.Part.{part}
 use Rattle.utils.proofs.Tab.{tab-getD}
 use Rattle.utils.proofs.Part.{part-put-below, part-put-above}
+use Rattle.bank.specs.declared.slots.Slot.{Slot}
 use Rattle.claims.specs.Claim.{Each}
 use Rattle.bank_abi.specs.Words.{wordOf, words, bytes, each}
-use Rattle.bank_abi.specs.Layout.{bits, svfIn, dcIn, stringIn, voiceIn, modeIn, batchIn, modalIn, slotIn, decodeSlot, svfWords, dcWords, stringWords, voiceWords, modeWords, batchWords, floatWords, modalWords, slotWords, flagOf, encodeSlot}
-use Rattle.bank_abi.specs.Crossing.{withBytes}
-use Rattle.bank_abi.specs.Claims.{isNumber, kept, EncodeDecode, Words, Untouched}
+use Rattle.bank_abi.specs.Layout.{SlotF32, bits, svfIn, dcIn, stringIn, voiceIn, modeIn, batchIn, modalIn, slotIn, decodeSlot, svfWords, dcWords, stringWords, voiceWords, modeWords, batchWords, floatWords, modalWords, slotWords, flagOf, encodeSlot}
+use Rattle.bank_abi.specs.Crossing.{parts, decodeBank, encodeBank, withBytes}
+use Rattle.bank_abi.specs.Claims.{Numbers, DecodeEncodeBank, isNumber, kept, EncodeDecode, Words, Untouched}
 use Rattle.bank_abi.proofs.Floats.{is-nan}
-use Rattle.bank_abi.proofs.Back.{Small, tab-same}
+use Rattle.bank_abi.proofs.Little.{length-slot-bytes}
+use Rattle.bank_abi.proofs.Back.{Small, tab-same, decode-encode}
 
 -- ---- a float's word
 
@@ -142,3 +145,19 @@ untouched bs new slot other l k h g d = go (decLt slot other)
     go : Dec (slot < other) → part (393 * other) 393 (withBytes slot new bs) ≡ part (393 * other) 393 bs
     go (yes e) = part-put-above (393 * other) 393 (393 * slot) 393 new bs (omega arith) (omega arith) k
     go (no n) = let e : other < slot = omega arith in part-put-below (393 * other) 393 (393 * slot) 393 new bs (omega arith) (omega arith)
+
+-- ---- a whole bank
+
+slots-back : (xs : List Slot) → Each (λ s. SlotF32 s × Numbers s) xs → map decodeSlot (parts (length xs) (each encodeSlot xs)) ≡ xs
+unfolding parts each
+slots-back [] e = refl
+slots-back (x ∷ xs) e =
+    let l = length-slot-bytes x (e .0 .0 .1) in
+    let rest = each encodeSlot xs in
+    (λ i. decodeSlot (take-at (encodeSlot x) rest 393 l i) ∷ map decodeSlot (parts (length xs) (drop-at (encodeSlot x) rest 393 l i)))
+    ∙ λ i. decode-encode x (e .0 .0) (e .0 .1) i ∷ slots-back xs (e .1) i
+
+pub decode-encode-bank : DecodeEncodeBank
+unfolding decodeBank encodeBank
+decode-encode-bank b l e =
+    λ i. record { slots = (ap (λ (n : ℕ). map decodeSlot (parts n (each encodeSlot (b .slots)))) (sym l) ∙ slots-back (b .slots) e) i }

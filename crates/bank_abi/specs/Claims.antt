@@ -9,10 +9,11 @@ use lib.Ieee.{binary32, nanBits}
 use Rattle.utils.specs.Frames.{tab}
 use Rattle.utils.specs.Part.{part}
 use Rattle.bank.specs.declared.slots.Slot.{Slot}
+use Rattle.bank.specs.declared.slots.Bank.{Bank}
 use Rattle.claims.specs.Claim.{Each}
 use Rattle.bank_abi.specs.Words.{words, bytes}
 use Rattle.bank_abi.specs.Layout.{SlotF32, decodeSlot, encodeSlot}
-use Rattle.bank_abi.specs.Crossing.{withBytes}
+use Rattle.bank_abi.specs.Crossing.{decodeBank, encodeBank, withBytes}
 
 -- a slot whose numbers have 32 bits
 pub record Numbers (s : Slot) : Type 0 where
@@ -24,6 +25,10 @@ pub record Numbers (s : Slot) : Type 0 where
 -- decode after encode is the identity
 abbrev pub DecodeEncode : Type 0
 DecodeEncode = (s : Slot) → SlotF32 s → Numbers s → decodeSlot (encodeSlot s) ≡ s
+
+-- and so for a whole bank, a fresh one too
+abbrev pub DecodeEncodeBank : Type 0
+DecodeEncodeBank = (b : Bank) → length (b .slots) ≡ 8 → Each (λ s. SlotF32 s × Numbers s) (b .slots) → decodeBank (encodeBank b) ≡ b
 
 -- the words of a slot that are numbers: kind, the two places, left
 abbrev pub isNumber : ℕ → Bool
