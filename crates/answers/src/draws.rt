@@ -5,7 +5,7 @@ use crate::words::pattern_of;
 
 // The word after w.
 pub fn next(w: u32) -> u32 {
-    std::num::wrapping_add_u32(utils::random::wrapping_mul(w, 1664525), 1013904223)
+    std::num::wrapping_add_u32(ground::random::wrapping_mul(w, 1664525), 1013904223)
 }
 
 // The word as a float of 0 to 1, both included.
@@ -81,7 +81,7 @@ pub fn digest_begin() -> u32 {
 
 // The digest with one word more: its upper half is added to its lower, so that a sign reaches every later bit.
 pub fn digest_with(h: u32, word: u32) -> u32 {
-    let sum = std::num::wrapping_add_u32(utils::random::wrapping_mul(h, 16777619), word);
+    let sum = std::num::wrapping_add_u32(ground::random::wrapping_mul(h, 16777619), word);
     std::num::wrapping_add_u32(sum, sum / 65536)
 }
 

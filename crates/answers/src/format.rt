@@ -60,7 +60,7 @@ fn with_digit(number: u32, byte: u8) -> u32 {
     if byte > b'9' {
         return 0;
     }
-    let tens = utils::random::wrapping_mul(number, 10);
+    let tens = ground::random::wrapping_mul(number, 10);
     std::num::wrapping_add_u32(tens, words::wide(byte - b'0'))
 }
 

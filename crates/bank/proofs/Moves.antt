@@ -6,9 +6,9 @@ use Prim.Native.Nat.{ℕ, _+_, _-_, _*_}
 use native.Mathlib.Omega.{arith}
 use lib.ListN.{take, drop, take-append-drop}
 use lib.Ieee.{Float}
-use Rattle.utils.specs.Draw.{Ran, run}
-use Rattle.utils.specs.Part.{part, put}
-use Rattle.utils.proofs.Draw.{run-then}
+use Rattle.ground.specs.Draw.{Ran, run}
+use Rattle.ground.specs.Part.{part, put}
+use Rattle.ground.proofs.Draw.{run-then}
 use Rattle.noise.specs.declared.excitation.Knobs.{Knobs}
 use Rattle.noise.specs.declared.excitation.Counts.{Counts}
 use Rattle.string_voice.specs.declared.string_voice.StringVoice.{StringVoice}

@@ -5,9 +5,9 @@ use Prim.Native.Nat.{ℕ, zero, suc, _<_, _≤_, _+_, _-_, _*_}
 use native.Mathlib.Omega.{arith}
 use lib.ListN.{length, getD, List·getD-eq-default, take, drop, length-take, length-drop}
 use lib.Ieee.{Float}
-use Rattle.utils.specs.F32.{c0}
+use Rattle.ground.specs.F32.{c0}
 use Rattle.bank.specs.declared.slots.Slot.{Slot}
-use Rattle.string_voice.specs.String.{Good}
+use Rattle.waveguide.specs.String.{Good}
 use Rattle.bank.specs.declared.slots.Bank.{Bank}
 use Rattle.bank.specs.Slots.{emptySlot, openedOn, slotAt}
 use Rattle.bank.specs.World.{Ready}

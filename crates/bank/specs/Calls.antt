@@ -3,8 +3,8 @@ use mathlib.Core.List.{List, []}
 use Prim.Native.Nat.{ℕ, zero, suc}
 use lib.ListN.{length, replicate}
 use lib.Ieee.{Float}
-use Rattle.utils.specs.F32.{c0}
-use Rattle.utils.specs.Draw.{Draw, ret, _>>=_}
+use Rattle.ground.specs.F32.{c0}
+use Rattle.ground.specs.Draw.{Draw, ret, _>>=_}
 use Rattle.noise.specs.declared.excitation.Knobs.{Knobs}
 use Rattle.noise.specs.declared.excitation.Counts.{Counts}
 use Rattle.string_voice.specs.StringVoice as string

@@ -3,7 +3,7 @@ use mathlib.Core.List.{List}
 use Prim.Native.Nat.{ℕ, zero, suc}
 use lib.ListN.{length, getD, set, replicate}
 use lib.Ieee.{Float}
-use Rattle.utils.specs.F32.{c0}
+use Rattle.ground.specs.F32.{c0}
 use Rattle.utils.specs.Filter.{svfNew, dcInit}
 use Rattle.string_voice.specs.declared.string_voice.StringVoice.{StringVoice}
 use Rattle.string_voice.specs.StringVoice as string

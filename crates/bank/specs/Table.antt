@@ -5,7 +5,7 @@ use Prim.Native.Nat.{ℕ}
 use lib.Dec.{eqb, ltb}
 use lib.ListN.{length}
 use lib.Ieee.{Float, binary32, ofBits, le}
-use Rattle.utils.specs.F32.{c0, c0·5, c1}
+use Rattle.ground.specs.F32.{c0, c0·5, c1}
 use Rattle.noise.specs.declared.excitation.Knobs.{Knobs}
 use Rattle.bank.specs.declared.answers.Knob.the-variants as K
 use Rattle.bank.specs.declared.answers.Reason.{Reason}

@@ -6,8 +6,8 @@ use Prim.Native.Nat.{ℕ, _*_, _<_, _≤_}
 use lib.Dec.{eqb, leb, ltb}
 use lib.ListN.{length}
 use lib.Ieee.{Float}
-use Rattle.utils.specs.Draw.{value, ending, words}
-use Rattle.utils.specs.Part.{part, put}
+use Rattle.ground.specs.Draw.{value, ending, words}
+use Rattle.ground.specs.Part.{part, put}
 use Rattle.bank.specs.declared.slots.Slot.{Slot}
 use Rattle.bank.specs.declared.slots.Bank.{Bank}
 use Rattle.bank.specs.declared.answers.Verdict.{Verdict}

@@ -1,6 +1,6 @@
 // The one generator, lent to whichever voice is rendering.
 ghost use mathlib.Core.Path.{_≡_};
-ghost use Rattle.utils.specs.Draw.{next};
+ghost use Rattle.ground.specs.Draw.{next};
 ghost use Rattle.bank.specs.Calls.{Bufs, render};
 ghost use Rattle.bank.specs.Table.{Call};
 ghost use Rattle.bank.specs.World.{World, Left, leftOf, callDef};
@@ -16,7 +16,7 @@ pub struct Generator {
 pub fn draw(generator: &mut Generator) -> u32
     ensures { λ r. ⌜ (r ≡ next (now (generator .entry) .word)) × (now (generator .exit) .word ≡ next (now (generator .entry) .word)) ⌝ }
 {
-    let w = utils::random::get_word(generator.word);
+    let w = ground::random::get_word(generator.word);
     generator.word = w;
     w
 }

@@ -1,13 +1,13 @@
 // The bank's state by value: eight slots, each with a voice of either kind.
 ghost use mathlib.Core.Path.{_≡_};
 ghost use Prim.Native.Nat.{_<_};
-ghost use Rattle.utils.specs.F32.{c0};
+ghost use Rattle.ground.specs.F32.{c0};
 ghost use Rattle.bank.specs.Slots.{noString, emptySlot, fresh, slotAt, withSlot, openedOn};
 use modal_voice::modal_voice::ModalVoice;
-use string_voice::string::String;
 use string_voice::string_voice::StringVoice;
 use utils::filter::DcBlocker;
 use utils::filter::Svf;
+use waveguide::string::String;
 
 // A slot: kind 0 is empty, 1 a string, 2 a modal voice.
 pub struct Slot {

@@ -11,10 +11,10 @@ use lib.ListN.{length, getD}
 use lib.Seq.{take-at, drop-at}
 use lib.Ieee.{binary32, nanBits, ofBits, toBits}
 use lib.Ieee.Bits.{toBits-ofBits, nanBits-is}
-use Rattle.utils.specs.Frames.{tab}
-use Rattle.utils.specs.Part.{part}
-use Rattle.utils.proofs.Tab.{tab-getD}
-use Rattle.utils.proofs.Part.{part-put-below, part-put-above}
+use Rattle.ground.specs.Frames.{tab}
+use Rattle.ground.specs.Part.{part}
+use Rattle.ground.proofs.Tab.{tab-getD}
+use Rattle.ground.proofs.Part.{part-put-below, part-put-above}
 use Rattle.bank.specs.declared.slots.Slot.{Slot}
 use Rattle.claims.specs.Claim.{Each}
 use Rattle.bank_abi.specs.Words.{wordOf, words, bytes, each}

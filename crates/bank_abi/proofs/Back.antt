@@ -10,13 +10,13 @@ use lib.ListN.{length, getD, List·getD-append}
 use lib.Seq.{getD-append-add, getD-at}
 use lib.Ieee.{Float, nan, binary32, ofBits}
 use lib.Ieee.Bits.{ofBits-toBits, toBits-lt}
-use Rattle.utils.specs.Frames.{tab}
-use Rattle.utils.proofs.Tab.{tab-getD}
+use Rattle.ground.specs.Frames.{tab}
+use Rattle.ground.proofs.Tab.{tab-getD}
 use Rattle.utils.specs.declared.filter.Svf.{Svf}
 use Rattle.utils.specs.declared.filter.DcBlocker.{DcBlocker}
-use Rattle.string_voice.specs.declared.string.String.{String}
-use Rattle.modal_voice.specs.declared.resonator.ResonatorSvf.{ResonatorSvf}
-use Rattle.modal_voice.specs.declared.resonator.Batch.{Batch}
+use Rattle.waveguide.specs.declared.string.String.{String}
+use Rattle.modes.specs.declared.resonator.ResonatorSvf.{ResonatorSvf}
+use Rattle.modes.specs.declared.resonator.Batch.{Batch}
 use Rattle.bank.specs.declared.slots.Slot.{Slot}
 use Rattle.claims.specs.Claim.{Each}
 use Rattle.bank_abi.specs.Words.{wordOf, words, bytes, each}

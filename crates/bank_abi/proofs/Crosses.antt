@@ -18,8 +18,8 @@ use Rattle.bank.specs.Calls.{Act, lent}
 use Rattle.bank.specs.Table.{Call, first, checks, verdict}
 use Rattle.bank.specs.World.{bad, Moved, movedBy, callBy, callDef}
 use Rattle.bank.proofs.Accepted.{or-false, Sound, whole, begun}
-use Rattle.utils.proofs.Part.{length-part}
-use Rattle.utils.proofs.Draw.{always-run, draws-always}
+use Rattle.ground.proofs.Part.{length-part}
+use Rattle.ground.proofs.Draw.{always-run, draws-always}
 use Rattle.bank.specs.Calls.{Voice, actDef}
 use Rattle.bank.specs.World.{linesAt}
 use Rattle.claims.specs.Claim.{InF32}

@@ -7,7 +7,7 @@ use native.Mathlib.Nat.{mul-zero, mul-suc, add-comm}
 use native.Mathlib.Numerals.{add-one}
 use lib.ListN.{length, getD, take, drop, set, length-append, length-take, length-drop, take-append-drop, drop-of-length-le}
 use lib.Seq.{set-at, drop-cons, take-at, drop-at, length-take-le, drop-drop, take-all, take-suc, sets, sets-eq}
-use Rattle.utils.specs.Part.{put}
+use Rattle.ground.specs.Part.{put}
 use lib.Ieee.{Float}
 use Rattle.string_voice.specs.declared.string_voice.StringVoice.{StringVoice}
 use Rattle.modal_voice.specs.declared.modal_voice.ModalVoice.{ModalVoice}

@@ -9,7 +9,7 @@ use lib.Dec.{eqb}
 use lib.ListN.{length, getD, List·getD-eq-default, take, drop, set, length-take, length-drop, length-map, take-append-drop, drop-of-length-le}
 use lib.Seq.{take-at, drop-at, take-append-add, drop-append-add, length-take-le, drop-drop, drop-cons}
 use lib.Ieee.{Float}
-use Rattle.utils.specs.Part.{part, put}
+use Rattle.ground.specs.Part.{part, put}
 use Rattle.bank.specs.declared.slots.Slot.{Slot}
 use Rattle.bank.specs.Slots.{emptySlot, slotAt, withSlot}
 use Rattle.bank.specs.World.{badSlot, badSlots, bad}

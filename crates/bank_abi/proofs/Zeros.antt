@@ -7,9 +7,9 @@ use native.Mathlib.Nat.{add-comm, zero-mul, suc-mul}
 use lib.Dec.{eqb}
 use lib.ListN.{length, replicate, replicate-append-replicate}
 use lib.Ieee.{toBits, ofBits}
-use Rattle.utils.specs.Frames.{tab}
+use Rattle.ground.specs.Frames.{tab}
 use Rattle.utils.specs.Filter.{svfNew, dcInit}
-use Rattle.modal_voice.specs.Resonator.{svfNew as modeNew, filtersNew, resonatorNew}
+use Rattle.modes.specs.Resonator.{svfNew as modeNew, filtersNew, resonatorNew}
 use Rattle.modal_voice.specs.ModalVoice.{voiceNew}
 use Rattle.bank.specs.declared.slots.Slot.{Slot}
 use Rattle.bank.specs.Slots.{noString, emptySlot, fresh}

@@ -6,8 +6,8 @@ use Prim.Native.Nat.{ℕ, _*_, _<_, _^_}
 use lib.Dec.{eqb}
 use lib.ListN.{length, getD}
 use lib.Ieee.{binary32, nanBits}
-use Rattle.utils.specs.Frames.{tab}
-use Rattle.utils.specs.Part.{part}
+use Rattle.ground.specs.Frames.{tab}
+use Rattle.ground.specs.Part.{part}
 use Rattle.bank.specs.declared.slots.Slot.{Slot}
 use Rattle.bank.specs.declared.slots.Bank.{Bank}
 use Rattle.claims.specs.Claim.{Each}

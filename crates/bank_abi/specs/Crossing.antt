@@ -6,7 +6,7 @@ use Prim.Native.Nat.{ℕ, zero, suc, _*_}
 use lib.Dec.{eqb, ltb}
 use lib.ListN.{length, getD, take, drop}
 use lib.Ieee.{Float}
-use Rattle.utils.specs.Part.{put}
+use Rattle.ground.specs.Part.{put}
 use Rattle.noise.specs.declared.excitation.Counts.{Counts}
 use Rattle.bank.specs.declared.slots.Bank.{Bank}
 use Rattle.bank.specs.declared.answers.Reason.the-variants.{Memory}

@@ -6,13 +6,13 @@ use Prim.Native.Nat.{ℕ, _+_, _*_}
 use lib.Dec.{T, eqb}
 use lib.ListN.{length, getD}
 use lib.Ieee.{Float, binary32, fits, ofBits, toBits}
-use Rattle.utils.specs.Frames.{tab}
+use Rattle.ground.specs.Frames.{tab}
 use Rattle.utils.specs.declared.filter.Svf.{Svf}
 use Rattle.utils.specs.declared.filter.DcBlocker.{DcBlocker}
-use Rattle.string_voice.specs.declared.string.String.{String}
+use Rattle.waveguide.specs.declared.string.String.{String}
 use Rattle.string_voice.specs.declared.string_voice.StringVoice.{StringVoice}
-use Rattle.modal_voice.specs.declared.resonator.ResonatorSvf.{ResonatorSvf}
-use Rattle.modal_voice.specs.declared.resonator.Batch.{Batch}
+use Rattle.modes.specs.declared.resonator.ResonatorSvf.{ResonatorSvf}
+use Rattle.modes.specs.declared.resonator.Batch.{Batch}
 use Rattle.modal_voice.specs.declared.modal_voice.ModalVoice.{ModalVoice}
 use Rattle.bank.specs.declared.slots.Slot.{Slot}
 use Rattle.claims.specs.Claim.{Each}

@@ -2,7 +2,7 @@
 use mathlib.Core.List.{List, [], _∷_, _++_}
 use Prim.Native.Nat.{ℕ, _+_, _*_, _/_, _%_}
 use lib.ListN.{length}
-use Rattle.utils.specs.Part.{put}
+use Rattle.ground.specs.Part.{put}
 
 -- the word of four bytes
 abbrev pub wordOf : ℕ → ℕ → ℕ → ℕ → ℕ

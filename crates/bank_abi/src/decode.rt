@@ -3,7 +3,7 @@ ghost use mathlib.Core.Path.{_≡_};
 ghost use Prim.Native.Nat.{_+_, _*_, _≤_, _<_};
 ghost use lib.Dec.{eqb};
 ghost use lib.ListN.{length, getD};
-ghost use Rattle.utils.specs.Frames.{tab};
+ghost use Rattle.ground.specs.Frames.{tab};
 ghost use Rattle.bank.specs.Slots.{slotAt};
 ghost use Rattle.bank_abi.specs.Crossing.{decodeBank};
 ghost use Rattle.bank_abi.specs.Words.{words};
@@ -12,13 +12,13 @@ use crate::words::float_at;
 use crate::words::word_at;
 use bank::slots::Slot;
 use modal_voice::modal_voice::ModalVoice;
-use modal_voice::resonator::Batch;
-use modal_voice::resonator::Resonator;
-use modal_voice::resonator::ResonatorSvf;
-use string_voice::string::String;
+use modes::resonator::Batch;
+use modes::resonator::Resonator;
+use modes::resonator::ResonatorSvf;
 use string_voice::string_voice::StringVoice;
 use utils::filter::DcBlocker;
 use utils::filter::Svf;
+use waveguide::string::String;
 
 fn svf_at(b: &[u8], k: usize) -> Svf
     requires { ⌜ 4 * k + 20 ≤ length (now b) ⌝ }

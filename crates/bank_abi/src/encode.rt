@@ -9,12 +9,12 @@ use crate::words::put_float;
 use crate::words::put_word;
 use bank::slots::Slot;
 use modal_voice::modal_voice::ModalVoice;
-use modal_voice::resonator::Batch;
-use modal_voice::resonator::ResonatorSvf;
-use string_voice::string::String;
+use modes::resonator::Batch;
+use modes::resonator::ResonatorSvf;
 use string_voice::string_voice::StringVoice;
 use utils::filter::DcBlocker;
 use utils::filter::Svf;
+use waveguide::string::String;
 
 fn put_svf(b: &mut [u8], k: usize, s: Svf)
     requires { ⌜ 4 * k + 20 ≤ length (now b) ⌝ }

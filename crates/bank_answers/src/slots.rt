@@ -7,10 +7,10 @@ use answers::words::pattern_of;
 use bank::slots::Bank;
 use bank::slots::Slot;
 use modal_voice::modal_voice::ModalVoice;
-use modal_voice::resonator::Batch;
-use string_voice::string::String;
+use modes::resonator::Batch;
 use string_voice::string_voice::StringVoice;
 use utils::filter::Svf;
+use waveguide::string::String;
 
 fn with_float(d: u32, x: f32) -> u32 {
     digest_with(d, pattern_of(x))

@@ -10,8 +10,8 @@ use lib.IntN.{pos, negsuc}
 use lib.Ieee.{Float, fin, neg, lt, le, isNan, add, sub, mul, div}
 use lib.Ieee.Scale.{finite}
 use lib.Ieee.Positive.{positive, between}
-use Rattle.utils.specs.F32.{_⊕_, _⊖_, _⊗_, _⊘_}
-use Rattle.utils.specs.Floats.{minF, clampF}
+use Rattle.ground.specs.F32.{_⊕_, _⊖_, _⊗_, _⊘_}
+use Rattle.ground.specs.Floats.{minF, clampF}
 use Rattle.bounds.proofs.Order.{zeroF, and-true, le-refl-float, le-trans-float, le-or, finite-between, neg-le, neg-finite, lt→le, not-lt→le, le→right, finite-not-nan}
 use Rattle.bounds.proofs.Monotone.{add-mono, sub-mono, mul-le, mul-ge, mul-comm-float, div-le, div-ge, div-up}
 

@@ -10,7 +10,7 @@ use lib.Pow.{pow-pos, pow-add, pow-lt}
 use lib.Ieee.{Float, fin, binary32, up, down, round, neg, lt, le, fits}
 use lib.Ieee.Fits.{and-l, and-r}
 use lib.Ieee.Scale.{finite}
-use Rattle.utils.specs.F32.{_⊖_}
+use Rattle.ground.specs.F32.{_⊖_}
 use Rattle.bounds.proofs.Order.{plus, less, den, den-pos, AtMost, not-le→number, lt→not-le}
 use Rattle.bounds.proofs.Monotone.{Near, over, under, near-mono, sub-near}
 

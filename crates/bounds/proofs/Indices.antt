@@ -13,8 +13,8 @@ use lib.Ieee.Fits.{ofInt-fits, add-fits, down-pos, and-l, and-r}
 use lib.Ieee.Exact.{HasValue, round-exact}
 use lib.Ieee.Back.{round-whole, whole-unique}
 use lib.Ieee.Scale.{finite}
-use Rattle.utils.specs.F32.{_⊕_, _⊖_, _⊗_, c128, c256}
-use Rattle.utils.specs.Floats.{wholePart, fractionOf}
+use Rattle.ground.specs.F32.{_⊕_, _⊖_, _⊗_, c128, c256}
+use Rattle.ground.specs.Floats.{wholePart, fractionOf}
 use Rattle.utils.specs.Units.{highIndex, lowIndex}
 use Rattle.bounds.proofs.Order.{zeroF, oneF, two64, le-refl-float, le-trans-float, not-le→le, AtMost, le→number, number→le, not-le→number, le-or, lt-of-le}
 use Rattle.bounds.proofs.Monotone.{over, near-mono, sub-near, sub-mono, mul-le}

@@ -12,7 +12,7 @@ use lib.Ieee.Fits.{up-pos}
 use lib.Ieee.Order.{round-mono}
 use lib.Ieee.Scale.{finite}
 use lib.Ieee.Positive.{positive}
-use Rattle.utils.specs.F32.{_⊕_, _⊖_, _⊗_, _⊘_}
+use Rattle.ground.specs.F32.{_⊕_, _⊖_, _⊗_, _⊘_}
 use Rattle.bounds.proofs.Order.{zeroF, plus, less, den, den-pos, AtMost, le→number, le-trans-float, neg-le, neg-finite, round-neg, sorted}
 
 -- ---- z is the nearest float to (p - q) / d

@@ -9,12 +9,12 @@ use lib.Dec.{T, eqb, eqb→eq, lit<, lit≤}
 use lib.Ieee.{Float, binary32, fits, le}
 use denote.Floats.{passes, is-true}
 use borrow.Author.Tests.{not-false}
-use Rattle.utils.specs.F32.{c0, c0·5, c1}
-use Rattle.utils.specs.Draw.{Draw}
-use Rattle.utils.proofs.Draw.{Draws, draws-then}
+use Rattle.ground.specs.F32.{c0, c0·5, c1}
+use Rattle.ground.specs.Draw.{Draw}
+use Rattle.ground.proofs.Draw.{Draws, draws-then}
 use Rattle.bounds.proofs.Order.{and-true}
 use Rattle.noise.specs.declared.excitation.Knobs.{Knobs}
-use Rattle.string_voice.specs.String.{stringInit, stringReset}
+use Rattle.waveguide.specs.String.{stringInit, stringReset}
 use Rattle.string_voice.specs.StringVoice.{excitationWords, voiceNew, voiceInit, voiceReset, renderOf}
 use Rattle.noise.proofs.Ranges.{Knob, Fundamental, knob, fundamental}
 use Rattle.string_voice.proofs.Drawn as string

@@ -5,21 +5,21 @@ use Prim.Native.Nat.{ℕ, zero, suc, _+_, _-_}
 use lib.Dec.{T}
 use lib.Ieee.{Float, binary32, ofBits, fits, lt, le, toUnsigned}
 use denote.Floats.{is-true}
-use Rattle.utils.specs.F32.{_⊕_, _⊗_, _⊘_, c0·26, c0·5, c0·9999, c1, c2, c4, c1020, twoTo64}
-use Rattle.utils.specs.Floats.{wholePart, clampF}
+use Rattle.ground.specs.F32.{_⊕_, _⊗_, _⊘_, c0·26, c0·5, c0·9999, c1, c2, c4, c1020, twoTo64}
+use Rattle.ground.specs.Floats.{wholePart, clampF}
 use Rattle.utils.specs.Filter.{svfSetFQ}
 use Rattle.utils.specs.declared.filter.FrequencyApproximation.the-variants.{Dirty}
-use Rattle.utils.proofs.Frames.{after, drawn}
+use Rattle.ground.proofs.Frames.{after, drawn}
 use Rattle.bounds.proofs.Order.{le-trans-float, lt-of-le}
 use Rattle.bounds.proofs.Monotone.{mul-comm-float}
 use Rattle.bounds.proofs.Bounds.{int, encloses, const-in, div-in}
 use Rattle.noise.specs.declared.excitation.Knobs.{Knobs}
-use Rattle.string_voice.specs.declared.string.String.{String}
+use Rattle.waveguide.specs.declared.string.String.{String}
 use Rattle.string_voice.specs.declared.string_voice.StringVoice.{StringVoice}
-use Rattle.string_voice.specs.String.{delayOf, ratioOf, snap, wordsOf}
+use Rattle.waveguide.specs.String.{delayOf, ratioOf, snap, wordsOf}
 use Rattle.string_voice.specs.StringVoice.{cutoffFor, struck}
-use Rattle.string_voice.proofs.Steps.{wrap}
-use Rattle.string_voice.proofs.Blocks.{ratioFor}
+use Rattle.waveguide.proofs.Steps.{wrap}
+use Rattle.waveguide.proofs.Blocks.{ratioFor}
 use Rattle.noise.proofs.Ranges.{Knob, Fundamental}
 use Rattle.string_voice.proofs.Amounts.{step-words}
 use Rattle.string_voice.proofs.Drawn as voice

@@ -13,9 +13,9 @@ use lib.Seq.{getD-set-same, getD-set-other}
 use lib.Dec.{ltb, eqb}
 use borrow.Author.Tests.{le-ltb, lt-leb, eqb-true, eq-eqb, ltb-false}
 use lib.Ieee.{Float}
-use Rattle.utils.specs.Draw.{Draw, value, ending, words, moved, stream}
-use Rattle.utils.proofs.Draw.{fed-words, words-are, ending-is, always-run, draws-length, draws-always}
-use Rattle.utils.proofs.Part.{length-part, length-put, part-put, part-put-below, part-put-above}
+use Rattle.ground.specs.Draw.{Draw, value, ending, words, moved, stream}
+use Rattle.ground.proofs.Draw.{fed-words, words-are, ending-is, always-run, draws-length, draws-always}
+use Rattle.ground.proofs.Part.{length-part, length-put, part-put, part-put-below, part-put-above}
 use Rattle.bank.specs.declared.slots.Slot.{Slot}
 use Rattle.bank.specs.declared.answers.Reason.{Reason}
 use Rattle.bank.specs.declared.answers.Reason.the-variants.{NoSlot}

@@ -6,8 +6,8 @@ use Prim.Native.Nat.{ℕ, _+_, _*_, _^_}
 use lib.ListN.{getD, replicate}
 use lib.IntN.{negsuc}
 use lib.Ieee.{Float, fin, binary32, ofBits, add, sub, mul, div, lt, le, neg, toUnsigned, fits}
-use Rattle.utils.specs.F32.{c0, c0·26, c0·5, c48000}
-use Rattle.string_voice.specs.String.{nonLinearity, wordsOf}
+use Rattle.ground.specs.F32.{c0, c0·26, c0·5, c48000}
+use Rattle.waveguide.specs.String.{nonLinearity, wordsOf}
 use Rattle.string_voice.specs.StringVoice.{amount}
 use Rattle.bank.specs.declared.answers.Knob.the-variants.{F0}
 use Rattle.bank.specs.declared.answers.Reason.the-variants.{TooLong, OutOfRange}

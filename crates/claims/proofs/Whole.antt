@@ -10,8 +10,8 @@ use lib.ListN.{length, getD, replicate, getD-replicate}
 use lib.Dec.{lit<, lit≤}
 use borrow.Author.Tests.{ne-eqb}
 use lib.Ieee.{Float}
-use Rattle.utils.specs.Draw.{moved, stream}
-use Rattle.utils.proofs.Draw.{moved-add, stream-add, length-stream, stream-at}
+use Rattle.ground.specs.Draw.{moved, stream}
+use Rattle.ground.proofs.Draw.{moved-add, stream-add, length-stream, stream-at}
 use Rattle.bank.specs.declared.answers.Reason.the-variants.{Memory}
 use Rattle.bank.specs.declared.answers.Verdict.{Verdict}
 use Rattle.bank.specs.declared.answers.Verdict.the-variants.{Accepted, Refused}

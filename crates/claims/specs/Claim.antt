@@ -8,7 +8,7 @@ use Prim.Native.Nat.{ℕ, suc, _+_, _^_, _<_}
 use lib.Dec.{T, eqb}
 use lib.ListN.{length, getD}
 use lib.Ieee.{Float, binary32, fits}
-use Rattle.utils.specs.Draw.{moved, fed}
+use Rattle.ground.specs.Draw.{moved, fed}
 use Rattle.noise.specs.declared.excitation.Counts.{Counts}
 use Rattle.bank.specs.declared.answers.Answer.{Answer}
 use Rattle.bank.specs.declared.answers.Answer.the-variants.{Drawn, Refusal}

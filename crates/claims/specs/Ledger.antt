@@ -5,7 +5,7 @@ use Prim.Native.Nat.{ℕ, zero, suc, _+_, _-_, min}
 use lib.Dec.{eqb}
 use lib.ListN.{length, getD, set, replicate}
 use lib.Ieee.{Float, binary32, ofBits, lt, le, toUnsigned}
-use Rattle.utils.specs.F32.{_⊕_, _⊖_, _⊗_, _⊘_, c0, c1, c4}
+use Rattle.ground.specs.F32.{_⊕_, _⊖_, _⊗_, _⊘_, c0, c1, c4}
 use Rattle.noise.specs.declared.excitation.Knobs.{Knobs}
 use Rattle.noise.specs.declared.excitation.Counts.{Counts}
 use Rattle.bank.specs.declared.answers.Verdict.{Verdict}

@@ -7,7 +7,7 @@ use native.Mathlib.Omega.{arith}
 use lib.ListN.{length, length-set}
 use lib.Ieee.{Float}
 use Rattle.utils.specs.declared.delay_line.AllpassOut.{AllpassOut}
-use Rattle.utils.specs.F32.{_⊕_, _⊗_}
+use Rattle.ground.specs.F32.{_⊕_, _⊗_}
 use Rattle.utils.specs.DelayLine.{tap, written, allpassOf}
 
 -- a place of a line, and the length of the line it was

@@ -5,13 +5,13 @@ use Prim.Native.Nat.{ℕ}
 use lib.Dec.{leb, ltb}
 use lib.ListN.{length}
 use lib.Ieee.{Float}
-use Rattle.utils.specs.Draw.{Draw, ret, ask, _>>=_}
-use Rattle.utils.specs.Random.{floatOf}
+use Rattle.ground.specs.Draw.{Draw, ret, ask, _>>=_}
+use Rattle.ground.specs.Random.{floatOf}
 use Rattle.utils.specs.Units.{semitonesToRatio}
 use Rattle.utils.specs.DelayLine.{readHermite}
 use Rattle.utils.specs.Filter.{svfNew, svfSetFQ, svfBuffer}
-use Rattle.utils.specs.Frames.{frames, scan}
-use Rattle.utils.specs.Part.{part}
+use Rattle.ground.specs.Frames.{frames, scan}
+use Rattle.ground.specs.Part.{part}
 use Rattle.utils.specs.declared.filter.FrequencyApproximation.the-variants.{Dirty}
 
 -- a function of the input alone, at each frame

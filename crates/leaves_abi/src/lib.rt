@@ -1,6 +1,6 @@
 // The leaves whose speed is compared with the Rust's, each over a buffer, for a host to call.
 ghost use mathlib.Core.Path.{_≡_};
-ghost use Rattle.utils.specs.Draw.{run, Ran};
+ghost use Rattle.ground.specs.Draw.{run, Ran};
 ghost use Rattle.leaves_abi.specs.Leaves.{filtered, drawnFloats, ratiosOf, hermitesOf};
 use utils::filter::Svf;
 
@@ -23,8 +23,8 @@ pub extern "C" fn leaves_get_floats(word: u32, out: &mut [f32]) -> u32
     let mut drawn = word;
     let mut i = 0;
     while i < n {
-        drawn = utils::random::get_word(drawn);
-        out[i] = utils::random::get_float(drawn);
+        drawn = ground::random::get_word(drawn);
+        out[i] = ground::random::get_float(drawn);
         i += 1;
     }
     drawn

@@ -11,8 +11,8 @@ use answers::calls::with_no_block;
 use answers::draws;
 use answers::words::pattern_of;
 use modal_voice::modal_voice::ModalVoice;
-use modal_voice::resonator::Batch;
-use modal_voice::resonator::ResonatorSvf;
+use modes::resonator::Batch;
+use modes::resonator::ResonatorSvf;
 
 // A voice after a call, and the call's row.
 pub struct Made {

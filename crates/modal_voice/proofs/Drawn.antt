@@ -4,17 +4,17 @@ use mathlib.Core.List.{List}
 use Prim.Native.Nat.{ℕ}
 use lib.ListN.{length}
 use lib.Ieee.{Float}
-use Rattle.utils.specs.F32.{c1}
-use Rattle.utils.specs.Draw.{counted}
-use Rattle.utils.proofs.Draw.{Draws, draws-then, counted-draws}
-use Rattle.utils.proofs.Frames.{scan-keeps, length-scan}
+use Rattle.ground.specs.F32.{c1}
+use Rattle.ground.specs.Draw.{counted}
+use Rattle.ground.proofs.Draw.{Draws, draws-then, counted-draws}
+use Rattle.ground.proofs.Frames.{scan-keeps, length-scan}
 use Rattle.noise.specs.declared.excitation.Knobs.{Knobs}
 use Rattle.noise.specs.Excitation.{raised, addStep}
-use Rattle.modal_voice.specs.declared.resonator.Batch.{Batch}
-use Rattle.modal_voice.specs.declared.resonator.Partial.{Partial}
-use Rattle.modal_voice.specs.declared.resonator.Resonator.{Resonator}
+use Rattle.modes.specs.declared.resonator.Batch.{Batch}
+use Rattle.modes.specs.declared.resonator.Partial.{Partial}
+use Rattle.modes.specs.declared.resonator.Resonator.{Resonator}
 use Rattle.modal_voice.specs.declared.modal_voice.ModalVoice.{ModalVoice}
-use Rattle.modal_voice.specs.Resonator.{modeOf, lowStep, lowBlock, bandStep, modesFrom, batchStep, inBatches, batches, processOf}
+use Rattle.modes.specs.Resonator.{modeOf, lowStep, lowBlock, bandStep, modesFrom, batchStep, inBatches, batches, processOf}
 use Rattle.modal_voice.specs.ModalVoice.{cutoffFor, resonanceFor, excitation, heldAfter, excitationWords, excitationCounts, Excited, exciteOf, soundOf, After, renderOf}
 use Rattle.modal_voice.proofs.Excitations.{excitation-draws}
 

@@ -5,8 +5,8 @@ use mathlib.Core.List.{List}
 use Prim.Native.Nat.{ℕ}
 use lib.ListN.{length, length-set, length-replicate}
 use lib.Ieee.{Float}
-use Rattle.utils.specs.F32.{c0}
-use Rattle.utils.proofs.Draw.{Draws}
+use Rattle.ground.specs.F32.{c0}
+use Rattle.ground.proofs.Draw.{Draws}
 use Rattle.noise.specs.declared.excitation.Knobs.{Knobs}
 use Rattle.noise.specs.Excitation.{dustFrequency, silence}
 use Rattle.noise.proofs.Drawn.{dusted-draws}

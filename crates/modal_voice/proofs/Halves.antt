@@ -6,18 +6,18 @@ use Prim.Native.Nat.{ℕ}
 use native.Mathlib.Omega.{arith}
 use lib.ListN.{length, set}
 use lib.Ieee.{Float}
-use Rattle.utils.specs.F32.{_⊗_, _⊖_, c0·499, c0·5, c1, c2, c4, c36, c60}
-use Rattle.utils.specs.Draw.{Draw, ret, run, counted}
-use Rattle.utils.specs.Floats.{minF}
+use Rattle.ground.specs.F32.{_⊗_, _⊖_, c0·499, c0·5, c1, c2, c4, c36, c60}
+use Rattle.ground.specs.Draw.{Draw, ret, run, counted}
+use Rattle.ground.specs.Floats.{minF}
 use Rattle.utils.specs.Units.{semitonesToRatio}
-use Rattle.utils.proofs.Draw.{run-then, counted-then}
+use Rattle.ground.proofs.Draw.{run-then, counted-then}
 use Rattle.noise.specs.declared.excitation.Knobs.{Knobs}
 use Rattle.noise.specs.declared.excitation.Counts.{Counts}
 use Rattle.noise.specs.Excitation.{raised, silence, added}
-use Rattle.modal_voice.specs.declared.resonator.ResonatorSvf.{ResonatorSvf}
-use Rattle.modal_voice.specs.declared.resonator.Resonator.{Resonator}
+use Rattle.modes.specs.declared.resonator.ResonatorSvf.{ResonatorSvf}
+use Rattle.modes.specs.declared.resonator.Resonator.{Resonator}
 use Rattle.modal_voice.specs.declared.modal_voice.ModalVoice.{ModalVoice}
-use Rattle.modal_voice.specs.Resonator.{modeOf, lowBlock, processOf}
+use Rattle.modes.specs.Resonator.{modeOf, lowBlock, processOf}
 use Rattle.modal_voice.specs.ModalVoice.{cutoffFor, resonanceFor, strikeOf, clicked, excitation, heldAfter, excitationWords, excitationCounts, exciteOf, Sounded, soundOf, renderOf}
 use Rattle.modal_voice.proofs.Excitations.{excitation-draws}
 

@@ -6,12 +6,12 @@ use Prim.Native.Nat.{_<_}
 use borrow.Author.Tests.{lt-ltb}
 use lib.ListN.{length}
 use lib.Ieee.{Float}
-use Rattle.utils.specs.F32.{c1}
-use Rattle.utils.specs.Draw.{Draw, ret, counted, _>>=_}
+use Rattle.ground.specs.F32.{c1}
+use Rattle.ground.specs.Draw.{Draw, ret, counted, _>>=_}
 use Rattle.noise.specs.declared.excitation.Knobs.{Knobs}
 use Rattle.noise.specs.Excitation.{added}
 use Rattle.modal_voice.specs.declared.modal_voice.ModalVoice.{ModalVoice}
-use Rattle.modal_voice.specs.Resonator.{modeOf, lowBlock}
+use Rattle.modes.specs.Resonator.{modeOf, lowBlock}
 use Rattle.modal_voice.specs.ModalVoice.{cutoffFor, resonanceFor, clicked, excitation, heldAfter, excitationCounts, Excited, exciteOf, soundOf, renderOf}
 
 -- the same knobs, triggered

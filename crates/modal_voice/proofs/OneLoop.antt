@@ -6,25 +6,25 @@ use Prim.Native.Nat.{ℕ, _*_, _^_, _<_}
 use borrow.Author.Tests.{lt-ltb}
 use lib.ListN.{getD, length}
 use lib.Ieee.{Float, nan}
-use Rattle.utils.specs.F32.{_⊕_, c1}
-use Rattle.utils.specs.Draw.{run}
-use Rattle.utils.specs.Frames.{scan}
-use Rattle.utils.proofs.Feed.{fill, feeding, feed}
+use Rattle.ground.specs.F32.{_⊕_, c1}
+use Rattle.ground.specs.Draw.{run}
+use Rattle.ground.specs.Frames.{scan}
+use Rattle.ground.proofs.Feed.{fill, feeding, feed}
 use Rattle.noise.specs.declared.excitation.Knobs.{Knobs}
 use Rattle.noise.specs.declared.excitation.Counts.{Counts}
 use Rattle.noise.specs.Excitation.{raised, addStep, added}
-use Rattle.modal_voice.specs.declared.resonator.ResonatorSvf.{ResonatorSvf}
-use Rattle.modal_voice.specs.declared.resonator.Batch.{Batch}
-use Rattle.modal_voice.specs.declared.resonator.Mode.{Mode}
-use Rattle.modal_voice.specs.declared.resonator.Modes.{Modes}
-use Rattle.modal_voice.specs.declared.resonator.States.{States}
+use Rattle.modes.specs.declared.resonator.ResonatorSvf.{ResonatorSvf}
+use Rattle.modes.specs.declared.resonator.Batch.{Batch}
+use Rattle.modes.specs.declared.resonator.Mode.{Mode}
+use Rattle.modes.specs.declared.resonator.Modes.{Modes}
+use Rattle.modes.specs.declared.resonator.States.{States}
 use Rattle.modal_voice.specs.declared.modal_voice.Ahead.{Ahead}
 use Rattle.modal_voice.specs.declared.modal_voice.ModalVoice.{ModalVoice}
-use Rattle.modal_voice.specs.Resonator.{modeOf, lowStep, lowBlock}
-use Rattle.modal_voice.specs.OnePass.{modesFor, statesOf, filtersOf, frameOf, onePass}
+use Rattle.modes.specs.Resonator.{modeOf, lowStep, lowBlock}
+use Rattle.modes.specs.OnePass.{modesFor, statesOf, filtersOf, frameOf, onePass}
 use Rattle.modal_voice.specs.ModalVoice.{cutoffFor, resonanceFor, excitation, heldAfter, excitationWords, excitationCounts, renderOf}
 use Rattle.modal_voice.specs.OneLoop.{Framed, framesOf, aheadOf}
-use Rattle.modal_voice.proofs.OnePass.{processed}
+use Rattle.modes.proofs.OnePass.{processed}
 use Rattle.modal_voice.proofs.Halves.{excited, sounded, rendered}
 
 -- a sample through the excitation filter

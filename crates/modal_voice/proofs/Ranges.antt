@@ -8,8 +8,8 @@ use lib.Dec.{T}
 use lib.Ieee.{Float, binary32, ofBits, fits, lt, le, mul, toUnsigned}
 use Rattle.resources.specs.Table.{entry}
 use Rattle.resources.specs.Pitch.{pitchRatioHigh, pitchRatioLow}
-use Rattle.utils.specs.F32.{_⊖_, _⊗_, c0, c0·499, c0·5, c1, c2, c4, c24, c36, c60, c64, c72, c79·7}
-use Rattle.utils.specs.Floats.{wholePart, minF, clampF}
+use Rattle.ground.specs.F32.{_⊖_, _⊗_, c0, c0·499, c0·5, c1, c2, c4, c24, c36, c60, c64, c72, c79·7}
+use Rattle.ground.specs.Floats.{wholePart, minF, clampF}
 use Rattle.utils.specs.Units.{highIndex, lowIndex, semitonesToRatio}
 use Rattle.utils.specs.Utils.{interpolateOf}
 use Rattle.bounds.proofs.Order.{and-true, finite-not-lt, finite-not-nan, lt-of-le}

@@ -5,15 +5,15 @@ use Prim.Native.Nat.{ℕ}
 use lib.ListN.{length, set}
 use lib.Dec.{ltb}
 use lib.Ieee.{Float}
-use Rattle.utils.specs.F32.{_⊕_, _⊖_, _⊗_, _⊘_, c0·015, c0·08, c0·12, c0·499, c0·5, c0·7, c1, c1·5, c2, c3, c4, c24, c36, c60}
-use Rattle.utils.specs.Draw.{Draw, ret, counted, _>>=_}
-use Rattle.utils.specs.Floats.{minF}
+use Rattle.ground.specs.F32.{_⊕_, _⊖_, _⊗_, _⊘_, c0·015, c0·08, c0·12, c0·499, c0·5, c0·7, c1, c1·5, c2, c3, c4, c24, c36, c60}
+use Rattle.ground.specs.Draw.{Draw, ret, counted, _>>=_}
+use Rattle.ground.specs.Floats.{minF}
 use Rattle.utils.specs.Units.{semitonesToRatio}
 use Rattle.noise.specs.declared.excitation.Knobs.{Knobs}
 use Rattle.noise.specs.declared.excitation.Counts.{Counts}
 use Rattle.noise.specs.Excitation.{raised, dustFrequency, dusted, silence, added}
 use Rattle.modal_voice.specs.declared.modal_voice.ModalVoice.{ModalVoice}
-use Rattle.modal_voice.specs.Resonator.{svfNew, modeOf, lowBlock, resonatorNew, resonatorInit, processOf}
+use Rattle.modes.specs.Resonator.{svfNew, modeOf, lowBlock, resonatorNew, resonatorInit, processOf}
 
 -- ---- ModalVoice::new and init
 

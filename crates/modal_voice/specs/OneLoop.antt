@@ -6,15 +6,15 @@ use Prim.Native.Nat.{ℕ}
 use lib.Dec.{ltb}
 use lib.ListN.{length, getD}
 use lib.Ieee.{Float, nan}
-use Rattle.utils.specs.F32.{c0}
+use Rattle.ground.specs.F32.{c0}
 use Rattle.noise.specs.Excitation.{added}
-use Rattle.modal_voice.specs.declared.resonator.ResonatorSvf.{ResonatorSvf}
-use Rattle.modal_voice.specs.declared.resonator.Batch.{Batch}
-use Rattle.modal_voice.specs.declared.resonator.Mode.{Mode}
-use Rattle.modal_voice.specs.declared.resonator.Modes.{Modes}
+use Rattle.modes.specs.declared.resonator.ResonatorSvf.{ResonatorSvf}
+use Rattle.modes.specs.declared.resonator.Batch.{Batch}
+use Rattle.modes.specs.declared.resonator.Mode.{Mode}
+use Rattle.modes.specs.declared.resonator.Modes.{Modes}
 use Rattle.modal_voice.specs.declared.modal_voice.Ahead.{Ahead}
-use Rattle.modal_voice.specs.Resonator.{lowStep, lowBlock}
-use Rattle.modal_voice.specs.OnePass.{onePass}
+use Rattle.modes.specs.Resonator.{lowStep, lowBlock}
+use Rattle.modes.specs.OnePass.{onePass}
 
 -- the buffers have one length
 pub record Alike (temp temp2 out aux : List Float) : Type 0 where

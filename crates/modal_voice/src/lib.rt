@@ -1,4 +1,2 @@
 // The modal voice: a click or dust, its filter, and the resonator.
 pub mod modal_voice;
-pub mod resonator;
-pub mod subnormal;

@@ -1,15 +1,15 @@
 // Simple modal synthesis voice with a mallet exciter: click -> LPF -> resonator. With sustain the click is replaced by dust.
 ghost use mathlib.Core.Path.{_≡_};
 ghost use mathlib.Core.Bool.{cond};
-ghost use Rattle.utils.specs.F32.{_⊗_, c0·7, c1·5, c2, c4, c36, c60};
-ghost use Rattle.utils.specs.Draw.{ret, run, Ran};
+ghost use Rattle.ground.specs.F32.{_⊗_, c0·7, c1·5, c2, c4, c36, c60};
+ghost use Rattle.ground.specs.Draw.{ret, run, Ran};
 ghost use Rattle.modal_voice.specs.OneLoop.{Alike, Framed, framesOf, aheadOf};
 ghost use Rattle.modal_voice.specs.ModalVoice.{voiceNew, voiceInit, cutoffFor, strikeOf, clicked, excitation, heldAfter, excitationWords, excitationCounts, Excited, exciteOf, Sounded, soundOf, After, renderOf};
-use crate::resonator::Batch;
-use crate::resonator::Mode;
-use crate::resonator::Modes;
-use crate::resonator::Resonator;
-use crate::resonator::ResonatorSvf;
+use modes::resonator::Batch;
+use modes::resonator::Mode;
+use modes::resonator::Modes;
+use modes::resonator::Resonator;
+use modes::resonator::ResonatorSvf;
 use noise::excitation::Counts;
 use noise::excitation::Knobs;
 
@@ -61,7 +61,7 @@ fn cutoff_for(k: Knobs) -> f32
     let brightness = noise::excitation::raise(k.accent, k.brightness);
     let semitones = (brightness * (2.0 - brightness) - 0.5) * range(k.sustain);
     let ratio = utils::units::semitones_to_ratio(semitones);
-    utils::floats::min(base(k.sustain, k.f0) * ratio, 0.499)
+    ground::floats::min(base(k.sustain, k.f0) * ratio, 0.499)
 }
 
 // The click of a strike.
@@ -146,11 +146,11 @@ fn filter_ahead(k: Mode, s: ResonatorSvf, temp: &[f32], i: usize) -> Ahead
     ensures { λ r. ⌜ r ≡ aheadOf k s (now (temp .entry)) i ⌝ }
 {
     if i < temp.len() {
-        let t = crate::resonator::tick_at(true, k, s, temp[i]);
+        let t = modes::resonator::tick_at(true, k, s, temp[i]);
         let svf = t.svf;
         return Ahead {
             svf,
-            x: 0.0 + crate::resonator::scale(true, k.gain, t.lp),
+            x: 0.0 + modes::resonator::scale(true, k.gain, t.lp),
         };
     }
     Ahead { svf: s, x: 0.0 }
@@ -174,7 +174,7 @@ fn sound_frames(
     let r_plus_g = m.r_plus_g;
     let h = m.h;
     let gain = m.gain;
-    let states = crate::resonator::states_of(mode_filters);
+    let states = modes::resonator::states_of(mode_filters);
     let mut state_1 = states.state_1;
     let mut state_2 = states.state_2;
     let mut bands = [0.0f32; 24];
@@ -188,7 +188,7 @@ fn sound_frames(
         ahead = filter_ahead(k, filter, temp, i + 1);
         temp_2[i] = x;
         aux[i] += x;
-        crate::resonator::tick_frame(
+        modes::resonator::tick_frame(
             &g,
             &r_plus_g,
             &h,
@@ -198,10 +198,10 @@ fn sound_frames(
             &mut bands,
             x,
         );
-        out[i] = crate::resonator::add_batches(out[i], &bands);
+        out[i] = modes::resonator::add_batches(out[i], &bands);
         i += 1;
     }
-    let after = crate::resonator::filters_of(&state_1, &state_2);
+    let after = modes::resonator::filters_of(&state_1, &state_2);
     Filtered {
         filter,
         mode_filters: after,
@@ -315,12 +315,12 @@ impl ModalVoice {
         let held = held_after(k, before, temp.len());
         let counts = counts_of(k.sustain, temp.len());
         let drawn = fill_excitation(k, before, cutoff, temp, word);
-        let mode = crate::resonator::mode_of(cutoff, q, 1.0);
+        let mode = modes::resonator::mode_of(cutoff, q, 1.0);
         let brightness = noise::excitation::raise(k.accent, k.brightness);
         let damping = noise::excitation::raise(k.accent, k.damping);
         let resonator = self.resonator;
         let amplitude = resonator.mode_amplitude;
-        let modes = crate::resonator::modes_for(amplitude, k.f0, k.structure, brightness, damping);
+        let modes = modes::resonator::modes_for(amplitude, k.f0, k.structure, brightness, damping);
         let filter = self.excitation_filter;
         let before_filters = resonator.mode_filters;
         let s = sound_frames(mode, filter, modes, before_filters, temp, temp_2, out, aux);

@@ -5,9 +5,9 @@ use Prim.Native.Nat.{ℕ}
 use native.Mathlib.Omega.{arith}
 use lib.ListN.{length}
 use lib.Ieee.{Float}
-use Rattle.utils.specs.Frames.{frames}
-use Rattle.utils.proofs.Draw.{Draws, draws-then}
-use Rattle.utils.proofs.Frames.{Any, frames-draws-each}
+use Rattle.ground.specs.Frames.{frames}
+use Rattle.ground.proofs.Draw.{Draws, draws-then}
+use Rattle.ground.proofs.Frames.{Any, frames-draws-each}
 use Rattle.noise.specs.Dust.{dustOf}
 use Rattle.noise.specs.Excitation.{dustStep, dusted}
 

@@ -5,7 +5,7 @@ use mathlib.Core.List.{List, [], _∷_}
 use denote.Floats.{passes}
 use lib.IntN.{negsuc}
 use lib.Ieee.{Float, fin, binary32, ofBits, le}
-use Rattle.utils.specs.F32.{_⊖_, _⊗_, c0, c0·25, c0·5, c1, c2, c36, c72}
+use Rattle.ground.specs.F32.{_⊖_, _⊗_, c0, c0·25, c0·5, c1, c2, c36, c72}
 use Rattle.bounds.proofs.Order.{and-true}
 use Rattle.bounds.proofs.Bounds.{int, minus, part, Between, encloses, sum, difference, product, is-in, const-in, add-in, sub-in, mul-in, piece}
 use Rattle.noise.specs.declared.excitation.Knobs.{Knobs}

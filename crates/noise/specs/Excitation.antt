@@ -2,9 +2,9 @@
 use mathlib.Core.List.{List}
 use lib.ListN.{length, replicate}
 use lib.Ieee.{Float}
-use Rattle.utils.specs.F32.{_⊕_, _⊖_, _⊗_, c0, c0·00005, c0·25, c0·99995, c1}
-use Rattle.utils.specs.Draw.{Draw, ret, _>>=_}
-use Rattle.utils.specs.Frames.{frames, scan}
+use Rattle.ground.specs.F32.{_⊕_, _⊖_, _⊗_, c0, c0·00005, c0·25, c0·99995, c1}
+use Rattle.ground.specs.Draw.{Draw, ret, _>>=_}
+use Rattle.ground.specs.Frames.{frames, scan}
 use Rattle.noise.specs.Dust.{dustOf}
 
 -- `x += 0.25 * accent * (1.0 - x)`, for brightness and for damping

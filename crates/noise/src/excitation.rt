@@ -1,6 +1,6 @@
 // What the excitation of both voices has in common.
 ghost use mathlib.Core.Path.{_≡_};
-ghost use Rattle.utils.specs.Draw.{run, Ran};
+ghost use Rattle.ground.specs.Draw.{run, Ran};
 ghost use Rattle.noise.specs.Excitation.{raised, dustFrequency, dusted, added};
 
 // What a render is given beside its buffers.

@@ -2,7 +2,7 @@
 ghost use mathlib.Core.Path.{_≡_};
 ghost use Prim.Native.Nat.{_+_, _≤_};
 ghost use lib.ListN.{length};
-ghost use Rattle.string_voice.specs.String.{Good};
+ghost use Rattle.waveguide.specs.String.{Good};
 use answers::calls::fill;
 use answers::calls::frames;
 use answers::calls::inputs_of;

@@ -6,14 +6,14 @@ use denote.Floats.{passes, is-true}
 use borrow.Author.Tests.{not-true}
 use lib.IntN.{pos}
 use lib.Ieee.{Float, fin, binary32, ofBits, fits, neg, le, lt, mul}
-use Rattle.utils.specs.F32.{_⊖_, _⊗_, c0, c0·24, c0·26, c1, c1·35135, c4·166}
+use Rattle.ground.specs.F32.{_⊖_, _⊗_, c0, c0·24, c0·26, c1, c1·35135, c4·166}
 use Rattle.bounds.proofs.Order.{lt→le, lt→not-le, finite-not-lt, lt-of-le, lt-then-le}
 use Rattle.bounds.proofs.Monotone.{mul-le}
 use Rattle.bounds.proofs.Bounds.{Between, encloses, is-in, const-in, sub-in, mul-in, finite-in}
 use Rattle.bounds.proofs.Gaps.{tiny, above-gap, below-gap}
-use Rattle.string_voice.specs.declared.string.StringNonLinearity.{StringNonLinearity}
-use Rattle.string_voice.specs.declared.string.StringNonLinearity.the-variants.{CurvedBridge, Dispersion}
-use Rattle.string_voice.specs.String.{nonLinearity, wordsOf}
+use Rattle.waveguide.specs.declared.string.StringNonLinearity.{StringNonLinearity}
+use Rattle.waveguide.specs.declared.string.StringNonLinearity.the-variants.{CurvedBridge, Dispersion}
+use Rattle.waveguide.specs.String.{nonLinearity, wordsOf}
 use Rattle.string_voice.specs.StringVoice.{amount}
 
 -- two tests that pass together

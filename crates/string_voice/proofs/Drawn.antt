@@ -7,25 +7,25 @@ use native.Mathlib.Nat.{zero-add, add-zero, le-trans, sub-le}
 use native.Mathlib.Omega.{arith}
 use lib.ListN.{length, take, length-take, length-replicate}
 use lib.Ieee.{Float}
-use Rattle.utils.specs.F32.{_⊘_, c0, c0·5, c1}
-use Rattle.utils.specs.Frames.{frames}
-use Rattle.utils.specs.Floats.{wholePart}
+use Rattle.ground.specs.F32.{_⊘_, c0, c0·5, c1}
+use Rattle.ground.specs.Frames.{frames}
+use Rattle.ground.specs.Floats.{wholePart}
 use Rattle.utils.specs.Filter.{svfStep, svfSetFQ}
 use Rattle.utils.specs.declared.filter.FrequencyApproximation.the-variants.{Dirty}
-use Rattle.utils.specs.Draw.{ret, counted, _>>=_}
-use Rattle.utils.proofs.Draw.{Draws, draws-bind, draws-then, counted-draws}
-use Rattle.utils.proofs.Frames.{Any, after, drawn, frames-draws-each, length-scan}
+use Rattle.ground.specs.Draw.{ret, counted, _>>=_}
+use Rattle.ground.proofs.Draw.{Draws, draws-bind, draws-then, counted-draws}
+use Rattle.ground.proofs.Frames.{Any, after, drawn, frames-draws-each, length-scan}
 use Rattle.noise.specs.declared.excitation.Counts.{Counts}
 use Rattle.noise.specs.Excitation.{raised, addStep}
 use Rattle.noise.proofs.Ranges.{Fundamental}
-use Rattle.string_voice.specs.declared.string.StringNonLinearity.{StringNonLinearity}
-use Rattle.string_voice.specs.declared.string.String.{String}
+use Rattle.waveguide.specs.declared.string.StringNonLinearity.{StringNonLinearity}
+use Rattle.waveguide.specs.declared.string.String.{String}
 use Rattle.noise.specs.declared.excitation.Knobs.{Knobs}
 use Rattle.string_voice.specs.declared.string_voice.StringVoice.{StringVoice}
-use Rattle.string_voice.specs.String.{ratioOf, snap, nonLinearity, wordsAt, strung, Good}
+use Rattle.waveguide.specs.String.{ratioOf, snap, nonLinearity, wordsAt, strung, Good}
 use Rattle.string_voice.specs.StringVoice.{cutoffFor, struck, excitation, excitationWords, Excited, exciteOf, bothCounts, amount, Sounded, soundOf, After, renderOf}
-use Rattle.string_voice.proofs.Steps.{wrap, At}
-use Rattle.string_voice.proofs.Blocks.{ratioFor, strung-draws}
+use Rattle.waveguide.proofs.Steps.{wrap, At}
+use Rattle.waveguide.proofs.Blocks.{ratioFor, strung-draws}
 use Rattle.string_voice.proofs.Excitations.{excitation-draws}
 use Rattle.string_voice.proofs.Halves.{struck-string}
 use Rattle.string_voice.proofs.Ranges.{left-in}

@@ -6,10 +6,10 @@ use Prim.Native.Nat.{ℕ, _≤_, min}
 use native.Mathlib.Omega.{arith}
 use lib.ListN.{length, take, length-take, length-replicate}
 use lib.Ieee.{Float}
-use Rattle.utils.specs.F32.{c0}
-use Rattle.utils.specs.Frames.{frames}
-use Rattle.utils.proofs.Draw.{Draws, draws-then}
-use Rattle.utils.proofs.Frames.{Any, frames-draws-each}
+use Rattle.ground.specs.F32.{c0}
+use Rattle.ground.specs.Frames.{frames}
+use Rattle.ground.proofs.Draw.{Draws, draws-then}
+use Rattle.ground.proofs.Frames.{Any, frames-draws-each}
 use Rattle.noise.specs.declared.excitation.Knobs.{Knobs}
 use Rattle.noise.specs.Excitation.{dustFrequency, silence}
 use Rattle.noise.proofs.Drawn.{dusted-draws}

@@ -5,22 +5,22 @@ use mathlib.Core.List.{List}
 use Prim.Native.Nat.{ℕ, _-_, min}
 use lib.ListN.{length}
 use lib.Ieee.{Float}
-use Rattle.utils.specs.F32.{_⊗_, _⊖_, _⊘_, c0·499, c0·5, c1, c2, c4, c72}
-use Rattle.utils.specs.Draw.{run, counted}
-use Rattle.utils.specs.Floats.{wholePart, minF}
+use Rattle.ground.specs.F32.{_⊗_, _⊖_, _⊘_, c0·499, c0·5, c1, c2, c4, c72}
+use Rattle.ground.specs.Draw.{run, counted}
+use Rattle.ground.specs.Floats.{wholePart, minF}
 use Rattle.utils.specs.Units.{semitonesToRatio}
 use Rattle.utils.specs.Filter.{svfBuffer, svfSetFQ}
 use Rattle.utils.specs.declared.filter.Svf.{Svf}
 use Rattle.utils.specs.declared.filter.FrequencyApproximation.the-variants.{Dirty}
-use Rattle.utils.proofs.Draw.{run-then, Always, always-bind, always-run, counted-then}
-use Rattle.utils.proofs.Frames.{Any, always-any}
-use Rattle.string_voice.specs.declared.string.StringNonLinearity.{StringNonLinearity}
-use Rattle.string_voice.specs.declared.string.String.{String}
+use Rattle.ground.proofs.Draw.{run-then, Always, always-bind, always-run, counted-then}
+use Rattle.ground.proofs.Frames.{Any, always-any}
+use Rattle.waveguide.specs.declared.string.StringNonLinearity.{StringNonLinearity}
+use Rattle.waveguide.specs.declared.string.String.{String}
 use Rattle.noise.specs.declared.excitation.Knobs.{Knobs}
 use Rattle.noise.specs.declared.excitation.Counts.{Counts}
 use Rattle.noise.specs.Excitation.{raised, added}
 use Rattle.string_voice.specs.declared.string_voice.StringVoice.{StringVoice}
-use Rattle.string_voice.specs.String.{nonLinearity, strung, Good}
+use Rattle.waveguide.specs.String.{nonLinearity, strung, Good}
 use Rattle.string_voice.specs.StringVoice.{exciterSemitones, cutoffFor, struck, excitation, excitationWords, excitationCounts, Excited, exciteOf, bothCounts, amount, soundOf, renderOf}
 use Rattle.string_voice.proofs.Excitations.{excitation-draws}
 

@@ -5,14 +5,14 @@ use mathlib.Core.List.{List, [], _∷_}
 use Prim.Native.Nat.{ℕ, zero, suc, _+_}
 use lib.IntN.{negsuc}
 use lib.Ieee.{Float, fin, binary32, ofBits, ofInt, add, sub, mul, div, lt, le, neg, toUnsigned}
-use Rattle.utils.specs.F32.{_⊕_, c0, c0·5, c1}
-use Rattle.utils.specs.Floats.{wholePart, clampF}
+use Rattle.ground.specs.F32.{_⊕_, c0, c0·5, c1}
+use Rattle.ground.specs.Floats.{wholePart, clampF}
 use Rattle.noise.specs.declared.excitation.Knobs.{Knobs}
 use Rattle.string_voice.specs.declared.string_voice.StringVoice.{StringVoice}
-use Rattle.string_voice.specs.String.{stringInit, delayOf, ratioOf, nonLinearity}
+use Rattle.waveguide.specs.String.{stringInit, delayOf, ratioOf, nonLinearity}
 use Rattle.string_voice.specs.StringVoice.{voiceNew, voiceInit, struck, amount}
-use Rattle.string_voice.proofs.Steps.{wrap}
-use Rattle.string_voice.proofs.Blocks.{ratioFor}
+use Rattle.waveguide.proofs.Steps.{wrap}
+use Rattle.waveguide.proofs.Blocks.{ratioFor}
 use Rattle.string_voice.proofs.Drawn.{burstWords, dustWords, dispersionWords, leftAt, leftAfter}
 
 -- 1/2048

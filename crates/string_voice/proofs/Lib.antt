@@ -1,7 +1,4 @@
 -- Laws that the proofs of this crate and of others cite.
-pub mod Knobs
-pub mod Steps
-pub mod Blocks
 pub mod Ranges
 pub mod Excitations
 pub mod Halves

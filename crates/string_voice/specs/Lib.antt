@@ -1,3 +1,2 @@
 -- What the functions of `string_voice` are proved equal to.
-pub mod String
 pub mod StringVoice

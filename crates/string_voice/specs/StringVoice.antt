@@ -4,11 +4,11 @@ use mathlib.Core.List.{List}
 use Prim.Native.Nat.{ℕ, _-_, _≤_, min}
 use lib.ListN.{length, take}
 use lib.Ieee.{Float, lt}
-use Rattle.utils.specs.F32.{_⊖_, _⊗_, _⊘_, c0, c0·24, c0·26, c0·499, c0·5, c1, c1·35135, c2, c4, c4·166, c6, c8, c72}
-use Rattle.utils.specs.Draw.{Draw, ret, ask, counted, _>>=_}
-use Rattle.utils.specs.Frames.{frames, scan}
-use Rattle.utils.specs.Floats.{wholePart, minF}
-use Rattle.utils.specs.Random.{noiseOf}
+use Rattle.ground.specs.F32.{_⊖_, _⊗_, _⊘_, c0, c0·24, c0·26, c0·499, c0·5, c1, c1·35135, c2, c4, c4·166, c6, c8, c72}
+use Rattle.ground.specs.Draw.{Draw, ret, ask, counted, _>>=_}
+use Rattle.ground.specs.Frames.{frames, scan}
+use Rattle.ground.specs.Floats.{wholePart, minF}
+use Rattle.ground.specs.Random.{noiseOf}
 use Rattle.utils.specs.Units.{semitonesToRatio}
 use Rattle.utils.specs.Filter.{svfNew, svfInit, svfSetFQ, svfBuffer}
 use Rattle.utils.specs.declared.filter.FrequencyApproximation.the-variants.{Dirty}
@@ -16,7 +16,7 @@ use Rattle.noise.specs.declared.excitation.Knobs.{Knobs}
 use Rattle.noise.specs.declared.excitation.Counts.{Counts}
 use Rattle.noise.specs.Excitation.{raised, dustFrequency, dusted, silence, added}
 use Rattle.string_voice.specs.declared.string_voice.StringVoice.{StringVoice}
-use Rattle.string_voice.specs.String.{stringNew, stringInit, stringReset, initOf, resetOf, nonLinearity, strung}
+use Rattle.waveguide.specs.String.{stringNew, stringInit, stringReset, initOf, resetOf, nonLinearity, strung}
 
 -- ---- StringVoice::new, init and reset: the voice, and its lines
 

@@ -1,3 +1,2 @@
 // The string voice: an excitation, its filter, and the string.
-pub mod string;
 pub mod string_voice;

@@ -3,16 +3,16 @@ ghost use mathlib.Core.Path.{_≡_};
 ghost use mathlib.Core.Bool.{cond};
 ghost use Prim.Native.Nat.{_≤_, _-_, _^_, min};
 ghost use lib.ListN.{length};
-ghost use Rattle.utils.specs.F32.{c0·5, c1};
-ghost use Rattle.utils.specs.Draw.{run, Ran};
-ghost use Rattle.string_voice.specs.String.{Good};
+ghost use Rattle.ground.specs.F32.{c0·5, c1};
+ghost use Rattle.ground.specs.Draw.{run, Ran};
+ghost use Rattle.waveguide.specs.String.{Good};
 ghost use Rattle.noise.specs.Excitation.{added};
 ghost use Rattle.string_voice.specs.StringVoice.{voiceNew, voiceInit, voiceReset, cutoffFor, struck, burst, excitation, excitationWords, excitationCounts, bothCounts, Excited, exciteOf, amount, Sounded, soundOf, After, renderOf};
-use crate::string::String;
 use noise::excitation::Counts;
 use noise::excitation::Knobs;
 use utils::filter::FrequencyApproximation;
 use utils::filter::Svf;
+use waveguide::string::String;
 
 // A voice. Its lines are lent: the string line of 1,024 numbers and the stretch line of 256 behind it.
 pub struct StringVoice {
@@ -34,7 +34,7 @@ fn cutoff_for(k: Knobs) -> f32
 {
     let brightness = noise::excitation::raise(k.accent, k.brightness);
     let ratio = utils::units::semitones_to_ratio((brightness * (2.0 - brightness) - 0.5) * 72.0);
-    utils::floats::min(4.0 * k.f0 * ratio, 0.499)
+    ground::floats::min(4.0 * k.f0 * ratio, 0.499)
 }
 
 fn resonance(sustain: bool) -> f32
@@ -55,8 +55,8 @@ fn fill_noise(m: usize, temp: &mut [f32], word: u32) -> u32
     let mut w = word;
     let mut i = 0;
     while i < m {
-        w = utils::random::get_word(w);
-        temp[i] = utils::random::noise(w);
+        w = ground::random::get_word(w);
+        temp[i] = ground::random::noise(w);
         i += 1;
     }
     w
@@ -180,7 +180,7 @@ impl StringVoice {
         StringVoice {
             excitation_filter,
             string,
-            remaining_noise_samples: utils::floats::whole_part(1.0 / k.f0),
+            remaining_noise_samples: ground::floats::whole_part(1.0 / k.f0),
         }
     }
 
@@ -234,15 +234,24 @@ impl StringVoice {
           word = r .word;
         } ⌝ }
     {
-        let shape = crate::string::non_linearity(amount_for(k.structure));
+        let shape = waveguide::string::non_linearity(amount_for(k.structure));
         let brightness = noise::excitation::raise(k.accent, k.brightness);
         let damping = noise::excitation::raise(k.accent, k.damping);
         let before = self.string;
-        let live = crate::string::Live {
+        let live = waveguide::string::Live {
             string: before,
             word,
         };
-        let s = crate::string::process(lines, live, shape, k.f0, brightness, damping, temp_2, out);
+        let s = waveguide::string::process(
+            lines,
+            live,
+            shape,
+            k.f0,
+            brightness,
+            damping,
+            temp_2,
+            out,
+        );
         let excitation_filter = self.excitation_filter;
         let string = s.string;
         let voice = StringVoice {

@@ -6,7 +6,7 @@ use native.Mathlib.Nat.{add-mul-mod-self-left, div-add-mod}
 use native.Mathlib.Omega.{arith}
 use lib.ListN.{length}
 use lib.Ieee.{Float}
-use Rattle.utils.specs.Floats.{wholePart, fractionOf}
+use Rattle.ground.specs.Floats.{wholePart, fractionOf}
 use Rattle.utils.specs.DelayLine.{tap, linearOf, cubicOf, readFrac, readHermite}
 
 module _ (line : List Float) where

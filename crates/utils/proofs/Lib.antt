@@ -1,15 +1,5 @@
 -- Laws that the proofs of this crate and of others cite.
-pub mod Draw
-pub mod Frames
-pub mod Tab
-pub mod Exchange
-pub mod Part
-pub mod Words
-pub mod Rounding
-pub mod Signs
-pub mod Wholes
 pub mod Pitches
 pub mod DelayLine
 pub mod Constants
 pub mod Increments
-pub mod Feed

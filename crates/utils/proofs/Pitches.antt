@@ -15,10 +15,10 @@ use lib.Ieee.Exact.{HasValue}
 use lib.Ieee.Back.{round-whole}
 use lib.Ieee.Order.{le-of-values}
 use lib.Ieee.Scale.{round-same}
-use Rattle.utils.specs.F32.{_⊖_, _⊗_, c1, c256, twoTo15, twoTo23, twoTo64}
-use Rattle.utils.specs.Floats.{wholePart, fractionOf}
-use Rattle.utils.proofs.Rounding.{mul-values, Dyadic, exact, whole-dyadic}
-use Rattle.utils.proofs.Wholes.{reached, under, lt-power, cut-whole, whole-value, no-minus, not-past, short, digits}
+use Rattle.ground.specs.F32.{_⊖_, _⊗_, c1, c256, twoTo15, twoTo23, twoTo64}
+use Rattle.ground.specs.Floats.{wholePart, fractionOf}
+use Rattle.ground.proofs.Rounding.{mul-values, Dyadic, exact, whole-dyadic}
+use Rattle.ground.proofs.Wholes.{reached, under, lt-power, cut-whole, whole-value, no-minus, not-past, short, digits}
 
 -- ---- of a float from 1 on, the number and what its whole part leaves are dyadic
 float-dyadic : (m : ℕ) (e : ℤ) → m < 2 ^ 24 → down e ≤ m * up e → Dyadic (m * up e) (down e)

@@ -5,8 +5,8 @@ use lib.ListN.{replicate}
 use lib.Ieee.{Float, neg, lt}
 use Rattle.utils.specs.declared.cosine_oscillator.CosineOscillator.{CosineOscillator}
 use Rattle.utils.specs.declared.cosine_oscillator.CosineOut.{CosineOut}
-use Rattle.utils.specs.F32.{_⊕_, _⊖_, _⊗_, c0, c0·25, c0·5, c1, c2, c16}
-use Rattle.utils.specs.Frames.{scan}
+use Rattle.ground.specs.F32.{_⊕_, _⊖_, _⊗_, c0, c0·25, c0·5, c1, c2, c16}
+use Rattle.ground.specs.Frames.{scan}
 
 -- the end of init_approximate: the coefficient of a sign and a frequency
 unfoldable pub withCoefficient : CosineOscillator → Float → Float → CosineOscillator

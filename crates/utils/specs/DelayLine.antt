@@ -4,8 +4,8 @@ use Prim.Native.Nat.{ℕ, _+_, _-_, _%_}
 use lib.ListN.{length, getD, set, replicate}
 use lib.Ieee.{Float, nan, neg}
 use Rattle.utils.specs.declared.delay_line.AllpassOut.{AllpassOut}
-use Rattle.utils.specs.F32.{_⊕_, _⊖_, _⊗_, c0, c0·5}
-use Rattle.utils.specs.Floats.{wholePart, fractionOf}
+use Rattle.ground.specs.F32.{_⊕_, _⊖_, _⊗_, c0, c0·5}
+use Rattle.ground.specs.Floats.{wholePart, fractionOf}
 
 -- what stands at an index taken round the line
 unfoldable pub tap : List Float → ℕ → Float

@@ -6,8 +6,8 @@ use Rattle.utils.specs.declared.filter.FrequencyApproximation.the-varian
 use Rattle.utils.specs.declared.filter.DcBlocker.{DcBlocker}
 use Rattle.utils.specs.declared.filter.Svf.{Svf}
 use Rattle.utils.specs.declared.filter.SvfOut.{SvfOut}
-use Rattle.utils.specs.F32.{_⊕_, _⊖_, _⊗_, _⊘_, c0, c0·01, c1, c100}
-use Rattle.utils.specs.Frames.{scan}
+use Rattle.ground.specs.F32.{_⊕_, _⊖_, _⊗_, _⊘_, c0, c0·01, c1, c100}
+use Rattle.ground.specs.Frames.{scan}
 
 -- ---- constants, composed as in the Rust
 unfoldable pub mPi : Float

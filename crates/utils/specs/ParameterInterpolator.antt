@@ -3,7 +3,7 @@ use Prim.Native.Nat.{ℕ, zero, suc}
 use lib.IntN.{pos}
 use lib.Ieee.{Float, binary32, ofInt}
 use Rattle.utils.specs.declared.parameter_interpolator.ParameterInterpolator.{ParameterInterpolator}
-use Rattle.utils.specs.F32.{_⊕_, _⊖_, _⊘_}
+use Rattle.ground.specs.F32.{_⊕_, _⊖_, _⊘_}
 
 -- ParameterInterpolator::new
 unfoldable pub interpolatorOf : Float → Float → ℕ → ParameterInterpolator

@@ -3,8 +3,8 @@ use Prim.Native.Nat.{ℕ}
 use lib.Ieee.{Float}
 use Rattle.resources.specs.Table.{entry}
 use Rattle.resources.specs.Pitch.{pitchRatioHigh, pitchRatioLow}
-use Rattle.utils.specs.F32.{_⊕_, _⊗_, c128, c256}
-use Rattle.utils.specs.Floats.{wholePart, fractionOf}
+use Rattle.ground.specs.F32.{_⊕_, _⊗_, c128, c256}
+use Rattle.ground.specs.Floats.{wholePart, fractionOf}
 
 -- the indices that semitones_to_ratio reads at: of a negative pitch both are 0
 unfoldable pub highIndex : Float → ℕ

@@ -5,8 +5,8 @@ use lib.Dec.{leb}
 use lib.Ieee.{Float}
 use Rattle.resources.specs.Table.{entry}
 use Rattle.resources.specs.Stiffness.{stiffness}
-use Rattle.utils.specs.F32.{_⊕_, _⊖_, _⊗_, c0, c1, c2, c64}
-use Rattle.utils.specs.Floats.{wholePart, fractionOf, clampF}
+use Rattle.ground.specs.F32.{_⊕_, _⊖_, _⊗_, c0, c1, c2, c64}
+use Rattle.ground.specs.Floats.{wholePart, fractionOf, clampF}
 
 -- interpolate(&LUT_STIFFNESS, index, 64.0), and 2.0 at index 1, where the Rust reads entry 65 of 65 and halts (01 'Filters, lines and tables')
 unfoldable pub interpolateOf : Float → Float

@@ -9,10 +9,10 @@ use lib.IntN.{pos, negsuc}
 use lib.Ieee.{Float, nan, fin, binary32, ofBits, ofInt, add, sub, mul, div, neg, lt, le, toUnsigned}
 use Rattle.resources.specs.Stiffness.{stiffness}
 use Rattle.resources.specs.Pitch.{pitchRatioHigh, pitchRatioLow}
-use Rattle.utils.specs.F32.{c0, c0·25, c0·5, c1, c2}
-use Rattle.utils.specs.Draw.{next}
-use Rattle.utils.specs.Random.{wordFloat, floatOf, noiseOf}
-use Rattle.utils.specs.Floats.{wholePart, fractionOf, clampF}
+use Rattle.ground.specs.F32.{c0, c0·25, c0·5, c1, c2}
+use Rattle.ground.specs.Draw.{next}
+use Rattle.ground.specs.Random.{wordFloat, floatOf, noiseOf}
+use Rattle.ground.specs.Floats.{wholePart, fractionOf, clampF}
 use Rattle.utils.specs.DelayLine.{tap, written, cubicOf, readHermite, allpassOf}
 use Rattle.utils.specs.Units.{highIndex, lowIndex, semitonesToRatio}
 use Rattle.utils.specs.Utils.{interpolateOf}

@@ -93,7 +93,7 @@ pub fn read_with_delay_frac(line: &[f32], write_ptr: usize, delay: f32) -> f32
     requires { ⌜ «write_ptr» < length (now line) ⌝ }
     ensures { λ r. ⌜ r ≡ readFrac (now (line .entry)) «write_ptr» delay ⌝ }
 {
-    let delayed = crate::floats::split(delay);
+    let delayed = ground::floats::split(delay);
     let t = write_ptr + rounded(delayed.integral, line.len());
     linear(read(line, t), read(line, t + 1), delayed.fractional)
 }
@@ -103,7 +103,7 @@ pub fn read_hermite(line: &[f32], write_ptr: usize, delay: f32) -> f32
     ensures { λ r. ⌜ r ≡ readHermite (now (line .entry)) «write_ptr» delay ⌝ }
 {
     let n = line.len();
-    let delayed = crate::floats::split(delay);
+    let delayed = ground::floats::split(delay);
     let t = write_ptr + rounded(delayed.integral, n) + n;
     cubic(
         read(line, t - 1),

@@ -6,9 +6,7 @@ ghost use Rattle.utils.specs.Utils.{interpolateOf, onePole, crossfadeOf}
 pub mod cosine_oscillator;
 pub mod delay_line;
 pub mod filter;
-pub mod floats;
 pub mod parameter_interpolator;
-pub mod random;
 pub mod units;
 
 // usize::min
@@ -22,7 +20,7 @@ pub fn min_usize(a: usize, b: usize) -> usize
 pub fn interpolate(index: f32) -> f32
     ensures { λ r. ⌜ r ≡ interpolateOf index ⌝ }
 {
-    let scaled = floats::split(floats::clamp(index, 0.0, 1.0) * 64.0);
+    let scaled = ground::floats::split(ground::floats::clamp(index, 0.0, 1.0) * 64.0);
     let integral = scaled.integral;
     if 64 <= integral {
         return 2.0;

@@ -6,8 +6,8 @@ use native.Mathlib.Numerals.{add-one}
 use native.Mathlib.Omega.{arith}
 use borrow.Author.Tests.{eqb-true, ltb-true}
 use lib.Dec.{eqb, ltb}
-use Rattle.utils.specs.Draw.{Draw, run}
-use Rattle.utils.proofs.Draw.{run-then, Always, always-run}
+use Rattle.ground.specs.Draw.{Draw, run}
+use Rattle.ground.proofs.Draw.{run-then, Always, always-run}
 use Rattle.voices_abi.specs.Blocks.{times, alikeSizes}
 
 -- i of n blocks are done, and what every block keeps holds

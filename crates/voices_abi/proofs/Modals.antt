@@ -5,8 +5,8 @@ use mathlib.Core.List.{List}
 use Prim.Native.Nat.{ℕ, _≤_}
 use lib.ListN.{length}
 use lib.Ieee.{Float}
-use Rattle.utils.specs.Draw.{run}
-use Rattle.utils.proofs.Draw.{run-then, Always, always-bind, draws-always}
+use Rattle.ground.specs.Draw.{run}
+use Rattle.ground.proofs.Draw.{run-then, Always, always-bind, draws-always}
 use Rattle.noise.specs.declared.excitation.Knobs.{Knobs}
 use Rattle.modal_voice.specs.declared.modal_voice.ModalVoice.{ModalVoice}
 use Rattle.modal_voice.specs.ModalVoice.{voiceNew, voiceInit, renderOf}

@@ -8,12 +8,12 @@ use borrow.Author.Tests.{eqb-true}
 use lib.Dec.{eqb}
 use lib.ListN.{length, length-replicate}
 use lib.Ieee.{Float}
-use Rattle.utils.specs.F32.{c0}
-use Rattle.utils.specs.Draw.{run}
-use Rattle.utils.proofs.Draw.{run-then, Always, always-bind, draws-always}
+use Rattle.ground.specs.F32.{c0}
+use Rattle.ground.specs.Draw.{run}
+use Rattle.ground.proofs.Draw.{run-then, Always, always-bind, draws-always}
 use Rattle.noise.specs.declared.excitation.Knobs.{Knobs}
 use Rattle.string_voice.specs.declared.string_voice.StringVoice.{StringVoice}
-use Rattle.string_voice.specs.String.{Good, stringInit}
+use Rattle.waveguide.specs.String.{Good, stringInit}
 use Rattle.string_voice.specs.StringVoice.{voiceNew, voiceInit, renderOf}
 use Rattle.string_voice.proofs.Drawn.{Left, render-draws}
 use Rattle.voices_abi.specs.Blocks.{times, alikeSizes}

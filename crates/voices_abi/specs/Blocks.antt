@@ -2,7 +2,7 @@
 use mathlib.Core.Bool.{Bool, _&&_}
 use Prim.Native.Nat.{ℕ, zero, suc}
 use lib.Dec.{eqb, ltb}
-use Rattle.utils.specs.Draw.{Draw, ret, _>>=_}
+use Rattle.ground.specs.Draw.{Draw, ret, _>>=_}
 
 -- n times, each on what the one before left
 abbrev pub times : {A : Type 0} → ℕ → (A → Draw A) → A → Draw A

@@ -4,7 +4,7 @@ use mathlib.Core.List.{List}
 use Prim.Native.Nat.{ℕ}
 use lib.ListN.{length}
 use lib.Ieee.{Float}
-use Rattle.utils.specs.Draw.{Draw, ret, _>>=_}
+use Rattle.ground.specs.Draw.{Draw, ret, _>>=_}
 use Rattle.noise.specs.declared.excitation.Knobs.{Knobs}
 use Rattle.modal_voice.specs.declared.modal_voice.ModalVoice.{ModalVoice}
 use Rattle.modal_voice.specs.ModalVoice.{voiceNew, voiceInit, renderOf}

@@ -5,7 +5,7 @@ use Prim.Native.Nat.{ℕ}
 use lib.Dec.{eqb}
 use lib.ListN.{length}
 use lib.Ieee.{Float}
-use Rattle.utils.specs.Draw.{Draw, ret, _>>=_}
+use Rattle.ground.specs.Draw.{Draw, ret, _>>=_}
 use Rattle.noise.specs.declared.excitation.Knobs.{Knobs}
 use Rattle.string_voice.specs.declared.string_voice.StringVoice.{StringVoice}
 use Rattle.string_voice.specs.StringVoice.{voiceNew, voiceInit, renderOf}

@@ -1,6 +1,6 @@
 // Blocks of each voice, one after the other.
 ghost use mathlib.Core.Path.{_≡_};
-ghost use Rattle.utils.specs.Draw.{run, Ran};
+ghost use Rattle.ground.specs.Draw.{run, Ran};
 ghost use Rattle.voices_abi.specs.Blocks.{alikeSizes};
 ghost use Rattle.voices_abi.specs.Strings.{sizesFit, blocksOf};
 ghost use Rattle.voices_abi.specs.Modals.{modalBlocks};

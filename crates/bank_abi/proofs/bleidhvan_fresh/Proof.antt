@@ -1,6 +1,6 @@
 -- `bleidhvan_fresh` meets its contract.
 use Rattle.bank_abi.proofs.Zeros.{none, made-fresh, not-made}
-use Rattle.utils.proofs.Tab.{Stored, stored-begin, stored-turn, stored-end}
+use Rattle.ground.proofs.Tab.{Stored, stored-begin, stored-turn, stored-end}
 use borrow.Author.Tests.{eq-eqb, ne-eqb}
 use lib.ListN.{length, length-set}
 use Prim.Native.Nat.{_-_, _≤_}

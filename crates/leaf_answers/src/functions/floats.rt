@@ -4,16 +4,16 @@ use answers::words;
 use answers::words::float_of;
 
 pub fn whole_part(x: u32) -> [u32; 7] {
-    let whole = utils::floats::whole_part(float_of(x));
+    let whole = ground::floats::whole_part(float_of(x));
     [words::low(whole), words::high(whole), 0, 0, 0, 0, 0]
 }
 
 pub fn fraction(x: u32) -> [u32; 7] {
-    one(utils::floats::fraction(float_of(x)))
+    one(ground::floats::fraction(float_of(x)))
 }
 
 pub fn min(x: u32, y: u32) -> [u32; 7] {
-    one(utils::floats::min(float_of(x), float_of(y)))
+    one(ground::floats::min(float_of(x), float_of(y)))
 }
 
 // An end's magnitude, 0 for a NaN.
@@ -21,7 +21,7 @@ fn size(end: f32) -> f32 {
     if end != end {
         0.0
     } else {
-        utils::floats::abs(end)
+        ground::floats::abs(end)
     }
 }
 
@@ -30,11 +30,11 @@ pub fn clamp(x: u32, a: u32, b: u32, given: u32) -> [u32; 7] {
     let lo = float_of(a);
     let hi = float_of(b);
     if given % 2 == 1 {
-        return one(utils::floats::clamp(float_of(x), lo, hi));
+        return one(ground::floats::clamp(float_of(x), lo, hi));
     }
-    one(utils::floats::clamp(float_of(x), -size(lo), size(hi)))
+    one(ground::floats::clamp(float_of(x), -size(lo), size(hi)))
 }
 
 pub fn abs(x: u32) -> [u32; 7] {
-    one(utils::floats::abs(float_of(x)))
+    one(ground::floats::abs(float_of(x)))
 }

@@ -3,9 +3,9 @@ use answers::words::float_of;
 use answers::words::pattern_of;
 
 pub fn draw(seed: u32) -> [u32; 7] {
-    let word = utils::random::get_word(seed);
-    let u = utils::random::get_float(word);
-    let noise = utils::random::noise(word);
+    let word = ground::random::get_word(seed);
+    let u = ground::random::get_float(word);
+    let noise = ground::random::noise(word);
     [word, pattern_of(u), pattern_of(noise), 0, 0, 0, 0]
 }
 

@@ -4,9 +4,9 @@ use Prim.Native.Nat.{ℕ, _-_}
 use native.Mathlib.Omega.{arith}
 use lib.Ieee.{Float, nan}
 use borrow.Author.Needs.{needs}
-use Rattle.utils.specs.Draw.{Ran, ret, next, run}
-use Rattle.utils.specs.Random.{floatOf}
-use Rattle.utils.proofs.Frames.{Frames, frames-begin, frames-turn, frames-then}
+use Rattle.ground.specs.Draw.{Ran, ret, next, run}
+use Rattle.ground.specs.Random.{floatOf}
+use Rattle.ground.proofs.Frames.{Frames, frames-begin, frames-turn, frames-then}
 use Rattle.leaves_abi.specs.Leaves.{floatStep}
 use Rattle.leaves_abi.proofs.leaves_get_floats.Statement.{statement}
 use Rattle.leaves_abi.proofs.leaves_get_floats.Tie as tie

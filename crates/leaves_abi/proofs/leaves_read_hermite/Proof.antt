@@ -6,8 +6,8 @@ use lib.Ieee.{Float, nan}
 use borrow.Author.Needs.{needs}
 use borrow.Author.Tests.{lt-ltb, le-ltb, le-leb, lt-leb}
 use Rattle.utils.specs.DelayLine.{readHermite}
-use Rattle.utils.specs.Part.{part}
-use Rattle.utils.proofs.Frames.{Scan, frames-begin, scan-turn, scan-end}
+use Rattle.ground.specs.Part.{part}
+use Rattle.ground.proofs.Frames.{Scan, frames-begin, scan-turn, scan-end}
 use Rattle.leaves_abi.specs.Leaves.{each}
 use Rattle.leaves_abi.proofs.leaves_read_hermite.Statement.{statement}
 use Rattle.leaves_abi.proofs.leaves_read_hermite.Tie as tie

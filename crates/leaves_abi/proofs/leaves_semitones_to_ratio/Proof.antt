@@ -4,7 +4,7 @@ use Prim.Native.Nat.{_-_}
 use native.Mathlib.Omega.{arith}
 use lib.Ieee.{Float, nan}
 use borrow.Author.Needs.{needs}
-use Rattle.utils.proofs.Frames.{Scan, frames-begin, scan-turn, scan-end}
+use Rattle.ground.proofs.Frames.{Scan, frames-begin, scan-turn, scan-end}
 use Rattle.utils.specs.Units.{semitonesToRatio}
 use Rattle.leaves_abi.specs.Leaves.{each}
 use Rattle.leaves_abi.proofs.leaves_semitones_to_ratio.Statement.{statement}

@@ -7,9 +7,9 @@ use borrow.Author.Tests.{le-leb, lt-leb}
 use lib.Ieee.{Float}
 use Rattle.resources.specs.Table.{entry}
 use Rattle.resources.specs.Stiffness.{stiffness}
-use Rattle.utils.specs.declared.floats.Parts.{Parts}
-use Rattle.utils.specs.F32.{_⊕_, _⊖_, _⊗_, c0, c1, c2, c64}
-use Rattle.utils.specs.Floats.{wholePart, fractionOf, clampF}
+use Rattle.ground.specs.declared.floats.Parts.{Parts}
+use Rattle.ground.specs.F32.{_⊕_, _⊖_, _⊗_, c0, c1, c2, c64}
+use Rattle.ground.specs.Floats.{wholePart, fractionOf, clampF}
 use Rattle.utils.specs.Utils.{interpolateOf}
 use borrow.Author.Needs.{needs}
 use Rattle.utils.proofs.interpolate.Statement.{statement}

@@ -6,7 +6,7 @@ use borrow.Author.Tests.{not-true, not-false}
 use borrow.Author.Needs.{needs}
 use denote.Ref.{now}
 use lib.ListN.{length}
-use Rattle.utils.proofs.Draw.{run-then}
+use Rattle.ground.proofs.Draw.{run-then}
 use Rattle.modal_voice.specs.ModalVoice.{renderOf}
 use Rattle.voices_abi.specs.Modals.{again}
 use Rattle.voices_abi.proofs.Blocks.{Done, begin, turn}

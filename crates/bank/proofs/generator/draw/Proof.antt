@@ -38,11 +38,11 @@ use denote.Triple.Entry.{onEntry}
 use denote.Triple.Spec.{Meets, tripleOf}
 use denote.Triple.Table.{entered, cited}
 use denote.Triple.Walked.{says, Stays, stay-ref, walkOf, AllGo, goes-ref, Walks, ends-at, walked, walk-meets}
-use Rattle.utils.specs.Draw.{next as nextWord}
-use Rattle.utils.proofs.random.get_word as next
-use Rattle.utils.proofs.random.get_word.Symbol as next-def
-use Rattle.utils.proofs.random.get_word.Symbol.{name as #utils·get-word}
-use Rattle.utils.proofs.random.get_word.Met as next-thm
+use Rattle.ground.specs.Draw.{next as nextWord}
+use Rattle.ground.proofs.random.get_word as next
+use Rattle.ground.proofs.random.get_word.Symbol as next-def
+use Rattle.ground.proofs.random.get_word.Symbol.{name as #utils·get-word}
+use Rattle.ground.proofs.random.get_word.Met as next-thm
 use Rattle.bank.specs.declared.generator.Generator.{Generator}
 use Rattle.bank.proofs.generator.Generator as T
 use Rattle.bank.proofs.generator.Generator.Laws as T′
@@ -141,4 +141,4 @@ draw-spec 𝓤 H 𝓜 𝓖 𝓡 =
     entered 𝓤 H (tripleOf 𝓤 H (𝓖 .A) f.signature (f.spec 𝓤 H (𝓖 .A) (𝓜 .mem) (𝓡 .run)))
     (tables 𝓤 H 𝓜 𝓡 code.env .C) (tables 𝓤 H 𝓜 𝓡 code.env .Λ) #bank·draw code.function (code.unfolded 𝓤 H 𝓜 𝓡)
     (draw-meets 𝓤 H (𝓖 .A) (givenOf 𝓤 H 𝓜 𝓖) (𝓜 .mem) (𝓡 .run) (tablesOf 𝓤 H 𝓜 (tables 𝓤 H 𝓜 𝓡 code.env))
-    (cited 𝓤 H (Next 𝓤 H (𝓖 .A) (𝓜 .mem) (𝓡 .run)) 𝓜 𝓡 code.env #utils·get-word next-def.routine code.calls-utils·random·get-word (next-thm.met 𝓤 H 𝓜 𝓖 𝓡)))
+    (cited 𝓤 H (Next 𝓤 H (𝓖 .A) (𝓜 .mem) (𝓡 .run)) 𝓜 𝓡 code.env #utils·get-word next-def.routine code.calls-ground·random·get-word (next-thm.met 𝓤 H 𝓜 𝓖 𝓡)))

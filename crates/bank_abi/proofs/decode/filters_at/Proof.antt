@@ -2,7 +2,7 @@
 use borrow.Author.Needs.{needs}
 use Rattle.bank_abi.specs.Layout.{batchIn}
 use Rattle.bank_abi.specs.Words.{words}
-use Rattle.utils.proofs.Tab.{Stored, stored-begin, stored-turn, stored-end}
+use Rattle.ground.proofs.Tab.{Stored, stored-begin, stored-turn, stored-end}
 use lib.ListN.{length}
 use Prim.Native.Nat.{_+_, _*_, _-_, _≤_}
 use mathlib.Core.Path.{_≡_, refl, sym}

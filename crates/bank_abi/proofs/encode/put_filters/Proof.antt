@@ -4,7 +4,7 @@ use lib.ListN.{take}
 use Rattle.claims.specs.Claim.{Each}
 use Rattle.bank_abi.proofs.Little.{Written, written-begin, written-turn, written-end, each-more, each-all}
 use lib.ListN.{length}
-use Rattle.modal_voice.specs.declared.resonator.Batch.{Batch}
+use Rattle.modes.specs.declared.resonator.Batch.{Batch}
 use borrow.Author.Needs.{needs}
 use Prim.Native.Nat.{_-_, _≤_}
 use mathlib.Core.Path.{_≡_, refl}

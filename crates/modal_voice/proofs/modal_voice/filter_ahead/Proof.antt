@@ -4,9 +4,9 @@ use borrow.Author.Tests.{lt-ltb, le-ltb}
 use denote.Ref.{now}
 use lib.ListN.{length}
 use lib.Ieee.{Float}
-use Rattle.utils.specs.F32.{_⊕_, _⊗_, c0}
-use Rattle.utils.specs.Frames.{scan}
-use Rattle.modal_voice.specs.declared.resonator.Ticked.{Ticked}
+use Rattle.ground.specs.F32.{_⊕_, _⊗_, c0}
+use Rattle.ground.specs.Frames.{scan}
+use Rattle.modes.specs.declared.resonator.Ticked.{Ticked}
 use Rattle.modal_voice.specs.OneLoop.{aheadOf}
 use borrow.Author.Needs.{needs}
 use Rattle.modal_voice.proofs.modal_voice.filter_ahead.Statement.{statement}

@@ -6,13 +6,13 @@ use borrow.Author.Needs.{needs}
 use denote.Ref.{now}
 use lib.ListN.{length, getD}
 use lib.Ieee.{nan}
-use Rattle.utils.proofs.Frames.{Scan, frames-begin, scan-turn, scan-end}
-use Rattle.utils.proofs.Feed.{fill, feeding}
+use Rattle.ground.proofs.Frames.{Scan, frames-begin, scan-turn, scan-end}
+use Rattle.ground.proofs.Feed.{fill, feeding}
 use Rattle.noise.specs.Excitation.{addStep}
-use Rattle.modal_voice.specs.declared.resonator.Modes.{Modes}
-use Rattle.modal_voice.specs.OnePass.{frameOf}
+use Rattle.modes.specs.declared.resonator.Modes.{Modes}
+use Rattle.modes.specs.OnePass.{frameOf}
 use Rattle.modal_voice.specs.OneLoop.{aheadOf}
-use Rattle.modal_voice.proofs.Frame.{bands-sizes, framed}
+use Rattle.modes.proofs.Frame.{bands-sizes, framed}
 use Rattle.modal_voice.proofs.OneLoop.{lowOf, Block, at-frame, aux-frame, out-frame, all-frames}
 use Rattle.modal_voice.proofs.modal_voice.sound_frames.Statement.{statement}
 use Rattle.modal_voice.proofs.modal_voice.sound_frames.Tie as tie

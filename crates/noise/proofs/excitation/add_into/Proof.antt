@@ -4,7 +4,7 @@ use Prim.Native.Nat.{_-_}
 use native.Mathlib.Omega.{arith}
 use lib.Ieee.{nan}
 use borrow.Author.Needs.{needs}
-use Rattle.utils.proofs.Frames.{Scan, frames-begin, scan-turn, scan-end}
+use Rattle.ground.proofs.Frames.{Scan, frames-begin, scan-turn, scan-end}
 use Rattle.noise.specs.Excitation.{addStep}
 use Rattle.noise.proofs.excitation.add_into.Statement.{statement}
 use Rattle.noise.proofs.excitation.add_into.Tie as tie

@@ -4,9 +4,9 @@ use Prim.Native.Nat.{_-_}
 use native.Mathlib.Omega.{arith}
 use lib.Ieee.{nan}
 use borrow.Author.Needs.{needs}
-use Rattle.utils.specs.Draw.{ret}
-use Rattle.utils.proofs.Draw.{run-then}
-use Rattle.utils.proofs.Frames.{Frames, frames-begin, frames-turn, frames-then}
+use Rattle.ground.specs.Draw.{ret}
+use Rattle.ground.proofs.Draw.{run-then}
+use Rattle.ground.proofs.Frames.{Frames, frames-begin, frames-turn, frames-then}
 use Rattle.noise.specs.Dust.{dustOf}
 use Rattle.noise.specs.Excitation.{dustStep, dusted}
 use Rattle.noise.proofs.excitation.fill_dust.Statement.{statement}

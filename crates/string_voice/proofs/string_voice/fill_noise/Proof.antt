@@ -5,8 +5,8 @@ use native.Mathlib.Omega.{arith}
 use lib.Ieee.{nan}
 use borrow.Author.Needs.{needs}
 use lib.ListN.{take, length-take}
-use Rattle.utils.specs.Draw.{ret}
-use Rattle.utils.proofs.Frames.{Frames, frames-begin, frames-turn, frames-then}
+use Rattle.ground.specs.Draw.{ret}
+use Rattle.ground.proofs.Frames.{Frames, frames-begin, frames-turn, frames-then}
 use Rattle.string_voice.specs.StringVoice.{noiseStep, burst}
 use Rattle.string_voice.proofs.string_voice.fill_noise.Statement.{statement}
 use Rattle.string_voice.proofs.string_voice.fill_noise.Tie as tie

@@ -5,12 +5,12 @@ use native.Mathlib.Omega.{arith}
 use lib.Ieee.{nan}
 use borrow.Author.Needs.{needs}
 use lib.ListN.{replicate}
-use Rattle.utils.specs.F32.{_⊗_, c0, c0·25}
+use Rattle.ground.specs.F32.{_⊗_, c0, c0·25}
 use Rattle.utils.specs.declared.cosine_oscillator.CosineOscillator.{CosineOscillator}
 use Rattle.utils.specs.declared.cosine_oscillator.CosineOut.{CosineOut}
 use Rattle.utils.specs.CosineOscillator.{amplitudeStep, amplitudesOf}
-use Rattle.utils.specs.Frames.{scan}
-use Rattle.utils.proofs.Frames.{Scan, frames-begin, scan-turn, scan-end}
+use Rattle.ground.specs.Frames.{scan}
+use Rattle.ground.proofs.Frames.{Scan, frames-begin, scan-turn, scan-end}
 use Rattle.utils.proofs.cosine_oscillator.amplitudes.Statement.{statement}
 use Rattle.utils.proofs.cosine_oscillator.amplitudes.Tie as tie
 

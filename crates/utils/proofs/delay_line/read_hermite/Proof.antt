@@ -2,7 +2,7 @@
 use mathlib.Core.Path.{ap}
 use native.Mathlib.Omega.{arith}
 use denote.Ref.{now}
-use Rattle.utils.specs.declared.floats.Parts.{Parts}
+use Rattle.ground.specs.declared.floats.Parts.{Parts}
 use Rattle.utils.proofs.DelayLine.{read-hermite}
 use borrow.Author.Needs.{needs}
 use Rattle.utils.proofs.delay_line.read_hermite.Statement.{statement}

@@ -1,7 +1,7 @@
 -- `delay_line::read_with_delay_frac` meets its contract.
 use mathlib.Core.Path.{ap}
 use denote.Ref.{now}
-use Rattle.utils.specs.declared.floats.Parts.{Parts}
+use Rattle.ground.specs.declared.floats.Parts.{Parts}
 use Rattle.utils.proofs.DelayLine.{read-frac}
 use borrow.Author.Needs.{needs}
 use Rattle.utils.proofs.delay_line.read_with_delay_frac.Statement.{statement}

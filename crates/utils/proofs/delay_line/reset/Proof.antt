@@ -7,8 +7,8 @@ use borrow.Author.Needs.{needs}
 use mathlib.Core.List.{List}
 use Prim.Native.Nat.{ℕ}
 use lib.Ieee.{Float}
-use Rattle.utils.specs.F32.{c0}
-use Rattle.utils.proofs.Frames.{Scan, frames-begin, scan-turn, scan-end, scan-one}
+use Rattle.ground.specs.F32.{c0}
+use Rattle.ground.proofs.Frames.{Scan, frames-begin, scan-turn, scan-end, scan-one}
 use Rattle.utils.proofs.delay_line.reset.Statement.{statement}
 use Rattle.utils.proofs.delay_line.reset.Tie as tie
 

@@ -6,9 +6,9 @@ use lib.Ieee.{Float, binary32, le, lt, toUnsigned}
 use lib.Ieee.Fits.{add-fits}
 use Rattle.resources.specs.Table.{entry}
 use Rattle.resources.specs.Pitch.{pitchRatioHigh, pitchRatioLow}
-use Rattle.utils.specs.declared.floats.Parts.{Parts}
-use Rattle.utils.specs.F32.{_⊕_, _⊗_, c1, c128, c256, twoTo15}
-use Rattle.utils.specs.Floats.{wholePart, fractionOf}
+use Rattle.ground.specs.declared.floats.Parts.{Parts}
+use Rattle.ground.specs.F32.{_⊕_, _⊗_, c1, c128, c256, twoTo15}
+use Rattle.ground.specs.Floats.{wholePart, fractionOf}
 use Rattle.utils.specs.Units.{highIndex, lowIndex, semitonesToRatio}
 use Rattle.utils.proofs.Pitches.{Indices, indices}
 use borrow.Author.Needs.{needs}

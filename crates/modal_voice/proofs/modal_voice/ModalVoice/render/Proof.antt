@@ -2,7 +2,7 @@
 use mathlib.Core.Path.{_∙_}
 use native.Mathlib.Omega.{arith}
 use denote.Ref.{now}
-use Rattle.modal_voice.proofs.OnePass.{mapped-length}
+use Rattle.modes.proofs.OnePass.{mapped-length}
 use Rattle.modal_voice.proofs.OneLoop.{together}
 use borrow.Author.Needs.{needs}
 use Rattle.modal_voice.proofs.modal_voice.ModalVoice.render.Statement.{statement}

@@ -4,7 +4,7 @@ use Rattle.string_voice.specs.StringVoice.{voiceInit}
 use borrow.Author.Needs.{needs}
 use Rattle.string_voice.proofs.string_voice.StringVoice.init.Statement.{statement}
 use Rattle.string_voice.proofs.string_voice.StringVoice.init.Tie as tie
-use Rattle.string_voice.proofs.string.String.init.Reads as string-String-init-reads
+use Rattle.waveguide.proofs.string.String.init.Reads as string-String-init-reads
 use Rattle.utils.proofs.filter.Svf.init.Reads as filter-Svf-init-reads
 
 init-requires : tie.Need-init-requires

@@ -3,7 +3,7 @@ use Rattle.string_voice.specs.StringVoice.{voiceNew}
 use borrow.Author.Needs.{needs}
 use Rattle.string_voice.proofs.string_voice.StringVoice.new.Statement.{statement}
 use Rattle.string_voice.proofs.string_voice.StringVoice.new.Tie as tie
-use Rattle.string_voice.proofs.string.String.new.Reads as string-String-new-reads
+use Rattle.waveguide.proofs.string.String.new.Reads as string-String-new-reads
 use Rattle.utils.proofs.filter.Svf.new.Reads as filter-Svf-new-reads
 
 new-requires : tie.Need-new-requires

@@ -6,7 +6,7 @@ use lib.Ieee.{nan}
 use borrow.Author.Needs.{needs}
 use Rattle.utils.specs.declared.filter.DcBlocker.{DcBlocker}
 use Rattle.utils.specs.Filter.{dcStep}
-use Rattle.utils.proofs.Frames.{Scan, frames-begin, scan-turn, scan-end}
+use Rattle.ground.proofs.Frames.{Scan, frames-begin, scan-turn, scan-end}
 use Rattle.utils.proofs.filter.DcBlocker.process.Statement.{statement}
 use Rattle.utils.proofs.filter.DcBlocker.process.Tie as tie
 

@@ -6,7 +6,7 @@ use lib.Ieee.{nan}
 use borrow.Author.Needs.{needs}
 use Rattle.utils.specs.declared.filter.SvfOut.{SvfOut}
 use Rattle.utils.specs.Filter.{svfStep}
-use Rattle.utils.proofs.Frames.{Scan, frames-begin, scan-turn, scan-end}
+use Rattle.ground.proofs.Frames.{Scan, frames-begin, scan-turn, scan-end}
 use Rattle.utils.proofs.filter.Svf.process_buffer.Statement.{statement}
 use Rattle.utils.proofs.filter.Svf.process_buffer.Tie as tie
 

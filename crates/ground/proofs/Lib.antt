@@ -1,0 +1,11 @@
+-- Laws that the proofs of this crate and of others cite. Assumes nothing.
+pub mod Draw
+pub mod Frames
+pub mod Tab
+pub mod Exchange
+pub mod Part
+pub mod Words
+pub mod Rounding
+pub mod Signs
+pub mod Wholes
+pub mod Feed

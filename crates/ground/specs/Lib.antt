@@ -1,0 +1,7 @@
+-- What the functions of `ground` are proved equal to. F32, Draw, Frames and Part are cited by every crate above. Assumes nothing.
+pub mod F32
+pub mod Draw
+pub mod Frames
+pub mod Part
+pub mod Floats
+pub mod Random

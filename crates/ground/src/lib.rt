@@ -1,0 +1,3 @@
+// What everything stands on: numbers, words and draws, and the laws of loops.
+pub mod floats;
+pub mod random;

@@ -1,0 +1,109 @@
+-- What the loops over the modes store, and a frame of them, as laws over plain values. Assumes nothing.
+use mathlib.Core.Path.{_≡_, refl, sym, _∙_, ap, ap₂, subst}
+use mathlib.Core.List.{List}
+use Prim.Native.Nat.{ℕ, suc, _+_, _-_, _≤_, _<_}
+use native.Mathlib.Omega.{arith}
+use lib.ListN.{getD, length, set}
+use lib.Ieee.{Float, nan}
+use Rattle.ground.specs.F32.{_⊕_, _⊖_, _⊗_, c1, c2}
+use Rattle.ground.proofs.Tab.{Stored, stored-read, stored-turn, length-tab}
+use Rattle.modes.specs.declared.resonator.Mode.{Mode}
+use Rattle.modes.specs.declared.resonator.ResonatorSvf.{ResonatorSvf}
+use Rattle.modes.specs.declared.resonator.Ticked.{Ticked}
+use Rattle.modes.specs.declared.resonator.Modes.{Modes}
+use Rattle.modes.specs.declared.resonator.Partial.{Partial}
+use Rattle.modes.specs.Resonator.{tickOf, capOf, frequency, resonance, amplitude}
+use Rattle.modes.specs.OnePass.{Bands, modeIn, stateAt, tickIn, bandsOf, placeOf, placesOf, addBatches, frameOf}
+
+-- what the loop over the modes stores at a mode, where it stands at p as at p'
+module _ {p p' : Partial} {v : Float} (e : v ≡ capOf (p .harmonic ⊗ p .«stretch_factor»)) (s : p ≡ p') where
+  pub stored-f : v ≡ frequency p'
+  unfolding frequency
+  stored-f = e ∙ ap (λ (z : Partial). capOf (z .harmonic ⊗ z .«stretch_factor»)) s
+
+  pub stored-q : c1 ⊕ v ⊗ p .q ≡ resonance p'
+  unfolding resonance
+  stored-q = ap₂ (λ (f : Float) (z : Partial). c1 ⊕ f ⊗ z .q) stored-f s
+
+  pub stored-a : (a : Float) → a ⊗ (c1 ⊖ v ⊗ c2) ≡ amplitude a p'
+  unfolding amplitude
+  stored-a a = ap (λ (f : Float). a ⊗ (c1 ⊖ f ⊗ c2)) stored-f
+
+-- the mode i's tick, of the states as they stand in the loop: those of the loop's begin
+pub ticked-here : (k : Mode) (x : Float) {f g : ℕ → Float} {one₀ two₀ one two : List Float} {i : ℕ} {o : Ticked}
+    → Stored f one₀ i one → Stored g two₀ i two → i < length one₀ → i < length two₀
+    → o ≡ tickOf k (stateAt one two i) x → o ≡ tickOf k (stateAt one₀ two₀ i) x
+ticked-here k x {f} {g} {one₀} {two₀} {one} {two} {i} a b la lb e =
+    e ∙ ap₂ (λ (u v : Float). tickOf k (record { «state_1» = u; «state_2» = v }) x) (stored-read nan a la) (stored-read nan b lb)
+
+-- the modes below i are ticked, of states that were one₀ and two₀
+pub record Ticks (k : Modes) (x : Float) (one₀ two₀ bands₀ : List Float) (i : ℕ) (one two bands : List Float) : Type 0 where
+  pub first : Stored (λ t. tickIn k one₀ two₀ x t .svf .«state_1») one₀ i one
+  pub second : Stored (λ t. tickIn k one₀ two₀ x t .svf .«state_2») two₀ i two
+  pub heard : Stored (λ t. getD (k .gain) t nan ⊗ tickIn k one₀ two₀ x t .bp) bands₀ i bands
+
+-- a place more is ticked, and four more
+module _ (k : Modes) (x : Float) {one₀ two₀ bands₀ : List Float} (la : length one₀ ≡ 24) (lb : length two₀ ≡ 24) (lc : length bands₀ ≡ 24) where
+  ticks-place : (b : Bands) (i : ℕ) → Ticks k x one₀ two₀ bands₀ i (b .«state_1») (b .«state_2») (b .bands) → i < 24
+      → Ticks k x one₀ two₀ bands₀ (i + 1) (placeOf k b x i .«state_1») (placeOf k b x i .«state_2») (placeOf k b x i .bands)
+  ticks-place b i u l =
+      let e = ticked-here (modeIn k i) x (u .first) (u .second) (omega (arith, la, l)) (omega (arith, lb, l)) refl in
+      record {
+        first = stored-turn (u .first) (omega (arith, la, l)) (ap (λ (o : Ticked). o .svf .«state_1») e);
+        second = stored-turn (u .second) (omega (arith, lb, l)) (ap (λ (o : Ticked). o .svf .«state_2») e);
+        heard = stored-turn (u .heard) (omega (arith, lc, l)) (ap (λ (o : Ticked). getD (k .gain) i nan ⊗ o .bp) e);
+      }
+
+  pub ticks-four : (b b' : Bands) (i : ℕ) → Ticks k x one₀ two₀ bands₀ i (b .«state_1») (b .«state_2») (b .bands) → i + 4 ≤ 24 → b' ≡ placesOf 4 k b x i
+      → Ticks k x one₀ two₀ bands₀ (i + 4) (b' .«state_1») (b' .«state_2») (b' .bands)
+  ticks-four b b' i u l e =
+      let b₁ = placeOf k b x i in
+      let b₂ = placeOf k b₁ x (i + 1) in
+      let b₃ = placeOf k b₂ x (i + 1 + 1) in
+      let u₁ = ticks-place b i u (omega (arith, l)) in
+      let u₂ = ticks-place b₁ (i + 1) u₁ (omega (arith, l)) in
+      let u₃ = ticks-place b₂ (i + 1 + 1) u₂ (omega (arith, l)) in
+      let u₄ = ticks-place b₃ (i + 1 + 1 + 1) u₃ (omega (arith, l)) in
+      let p : i + 1 + 1 + 1 + 1 ≡ i + 4 = omega arith in
+      subst (λ (c : Bands). Ticks k x one₀ two₀ bands₀ (i + 4) (c .«state_1») (c .«state_2») (c .bands)) (sym e)
+      (subst (λ (n : ℕ). let c = placeOf k b₃ x (i + 1 + 1 + 1) in Ticks k x one₀ two₀ bands₀ n (c .«state_1») (c .«state_2») (c .bands)) p u₄)
+
+-- a loop over places, by what is still to do
+pub places-begin : (k : Modes) (b : Bands) (x : Float) (i : ℕ) → placesOf (i + 4 - i) k b x i ≡ placesOf 4 k b x i
+places-begin k b x i = let s : i + 4 - i ≡ 4 = omega arith in ap (λ (n : ℕ). placesOf n k b x i) s
+
+pub place-turn : (k : Modes) (b : Bands) (x : Float) (j e : ℕ) {o : Ticked} {z : Float} {r : Bands}
+    → placesOf (e - j) k b x j ≡ r → j < e → o ≡ tickOf (modeIn k j) (stateAt (b .«state_1») (b .«state_2») j) x → z ≡ getD (k .gain) j nan ⊗ o .bp
+    → placesOf (e - (j + 1)) k (record { «state_1» = set (b .«state_1») j (o .svf .«state_1»); «state_2» = set (b .«state_2») j (o .svf .«state_2»); bands = set (b .bands) j z }) x (j + 1) ≡ r
+place-turn k b x j e {o} {z} {r} v l eo ez =
+    let s : e - j ≡ suc (e - (j + 1)) = omega (arith, l) in
+    let w = ez ∙ ap (λ (o : Ticked). getD (k .gain) j nan ⊗ o .bp) eo in
+    (λ i. placesOf (e - (j + 1)) k (record { «state_1» = set (b .«state_1») j (eo i .svf .«state_1»); «state_2» = set (b .«state_2») j (eo i .svf .«state_2»); bands = set (b .bands) j (w i) }) x (j + 1))
+    ∙ sym (ap (λ (n : ℕ). placesOf n k b x j) s)
+    ∙ v
+
+pub places-end : (k : Modes) (b : Bands) (x : Float) (j e : ℕ) {r : Bands} → placesOf (e - j) k b x j ≡ r → e ≤ j → b ≡ r
+places-end k b x j e v l = let s : e - j ≡ 0 = omega (arith, l) in sym (ap (λ (n : ℕ). placesOf n k b x j) s) ∙ v
+
+-- a tick, its products named
+pub ticked-small : (k : Mode) (s : ResonatorSvf) (x : Float) {r hp a b : Float}
+    → r ≡ k .«r_plus_g» ⊗ s .«state_1» → hp ≡ (x ⊖ r ⊖ s .«state_2») ⊗ k .h → a ≡ k .g ⊗ hp → b ≡ k .g ⊗ (a ⊕ s .«state_1»)
+    → _≡_ {A = Ticked} (record { svf = record { «state_1» = a ⊕ (a ⊕ s .«state_1»); «state_2» = b ⊕ (b ⊕ s .«state_2») }; bp = a ⊕ s .«state_1»; lp = b ⊕ s .«state_2» })
+    (tickOf k s x)
+unfolding tickOf
+ticked-small k s x er eh ea eb = rw (eb, ea, eh, er)
+
+-- all modes have states and a band after a sample
+pub bands-sizes : {b : Bands} (k : Modes) (one two : List Float) (x : Float) → b ≡ bandsOf k one two x
+    → (length (b .«state_1») ≡ 24) × (length (b .«state_2») ≡ 24) × (length (b .bands) ≡ 24)
+unfolding bandsOf
+bands-sizes k one two x e = (
+  ap (λ (b : Bands). length (b .«state_1»)) e ∙ length-tab 24 (λ t. tickIn k one two x t .svf .«state_1»),
+  ap (λ (b : Bands). length (b .«state_2»)) e ∙ length-tab 24 (λ t. tickIn k one two x t .svf .«state_2»),
+  ap (λ (b : Bands). length (b .bands)) e ∙ length-tab 24 (λ t. getD (k .gain) t nan ⊗ tickIn k one two x t .bp),
+)
+
+-- a frame: all modes, then the sums of the batches
+pub framed : {b : Bands} {z : Float} (k : Modes) (one two : List Float) (x y : Float) → b ≡ bandsOf k one two x → z ≡ addBatches y (b .bands)
+    → _≡_ {A = (List Float × List Float) × Float} ((b .«state_1», b .«state_2»), z) (frameOf k (one, two) x y)
+framed k one two x y e s = λ j. ((e j .«state_1», e j .«state_2»), (s ∙ ap (λ (b : Bands). addBatches y (b .bands)) e) j)

@@ -1,0 +1,5 @@
+-- Laws that the proofs of this crate and of others cite. Assumes nothing.
+pub mod Frame
+pub mod OnePass
+pub mod Unique
+pub mod Grid

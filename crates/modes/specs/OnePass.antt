@@ -1,0 +1,144 @@
+-- The one-pass form of Resonator::process: the coefficients of all modes first, then each frame through all modes. What belongs to the mode k of the
+-- batch b stands at the place 6 k + b. Assumes nothing.
+use mathlib.Core.List.{List}
+use Prim.Native.Nat.{ℕ, zero, suc, _+_, _*_, _/_, _%_}
+use lib.ListN.{getD, set}
+use lib.Ieee.{Float, nan}
+use Rattle.ground.specs.F32.{_⊕_, _⊗_, c0, c79·7}
+use Rattle.ground.specs.Frames.{scan, after, tab}
+use Rattle.utils.specs.Utils.{interpolateOf}
+use Rattle.utils.specs.Units.{semitonesToRatio}
+use Rattle.modes.specs.declared.resonator.ResonatorSvf.{ResonatorSvf}
+use Rattle.modes.specs.declared.resonator.Batch.{Batch}
+use Rattle.modes.specs.declared.resonator.Mode.{Mode}
+use Rattle.modes.specs.declared.resonator.Ticked.{Ticked}
+use Rattle.modes.specs.declared.resonator.Partial.{Partial}
+use Rattle.modes.specs.declared.resonator.Tuned.{Tuned}
+use Rattle.modes.specs.declared.resonator.Modes.{Modes}
+use Rattle.modes.specs.declared.resonator.States.{States}
+use Rattle.modes.specs.Resonator.{modeOf, tickOf, absent, modesIn, nextOf, frequency, resonance, amplitude, compensation, lossOf, firstOf}
+
+-- ---- the coefficients
+
+-- where the loop over the modes stands at the mode m
+abbrev pub partialAt : Float → Float → Partial → ℕ → Partial
+partialAt f0 loss p m = after (nextOf f0 loss) m p
+
+unfoldable pub tuned : List Float → Float → Float → Partial → Tuned
+tuned amps f0 loss p =
+    record {
+      f = tab 24 (λ m. frequency (partialAt f0 loss p m));
+      q = tab 24 (λ m. resonance (partialAt f0 loss p m));
+      a = tab 24 (λ m. amplitude (getD amps m nan) (partialAt f0 loss p m));
+    }
+
+-- the number of the mode at a place, and its coefficients
+abbrev pub modeHere : ℕ → ℕ
+modeHere t = 4 * (t % 6) + t / 6
+
+abbrev pub modeThere : Tuned → ℕ → Mode
+modeThere u t = modeOf (getD (u .f) (modeHere t) nan) (getD (u .q) (modeHere t) nan) (getD (u .a) (modeHere t) nan)
+
+unfoldable pub modesOf : Tuned → Modes
+modesOf u =
+    record {
+      g = tab 24 (λ t. modeThere u t .g);
+      «r_plus_g» = tab 24 (λ t. modeThere u t .«r_plus_g»);
+      h = tab 24 (λ t. modeThere u t .h);
+      gain = tab 24 (λ t. modeThere u t .gain);
+    }
+
+-- the coefficients for a block
+unfoldable pub modesFor : List Float → Float → Float → Float → Float → Modes
+modesFor amps f0 structure brightness damping =
+    let stiffness = interpolateOf structure in
+    let f = f0 ⊗ compensation 3 stiffness in
+    let first = firstOf f stiffness (semitonesToRatio (damping ⊗ c79·7)) in
+    modesOf (tuned amps f (lossOf structure brightness damping) first)
+
+-- ---- what the modes keep
+
+-- a batch's states put to their places
+abbrev pub putFour : Float → Float → Float → Float → ℕ → List Float → List Float
+putFour p q r s b xs = set (set (set (set xs b p) (6 + b) q) (12 + b) r) (18 + b) s
+
+unfoldable pub putBatch : Batch → ℕ → List Float → List Float → List Float × List Float
+putBatch f b one two = (
+  putFour (f .«mode_0» .«state_1») (f .«mode_1» .«state_1») (f .«mode_2» .«state_1») (f .«mode_3» .«state_1») b one,
+  putFour (f .«mode_0» .«state_2») (f .«mode_1» .«state_2») (f .«mode_2» .«state_2») (f .«mode_3» .«state_2») b two,
+)
+
+-- what stands past the end of a list of batches
+abbrev pub noBatch : Batch
+noBatch = record { «mode_0» = absent; «mode_1» = absent; «mode_2» = absent; «mode_3» = absent }
+
+-- all batches' states at their places
+unfoldable pub statesOf : List Batch → States
+statesOf fs =
+    record {
+      «state_1» = tab 24 (λ t. getD (modesIn (getD fs (t % 6) noBatch)) (t / 6) absent .«state_1»);
+      «state_2» = tab 24 (λ t. getD (modesIn (getD fs (t % 6) noBatch)) (t / 6) absent .«state_2»);
+    }
+
+-- and back
+abbrev pub stateAt : List Float → List Float → ℕ → ResonatorSvf
+stateAt one two t = record { «state_1» = getD one t nan; «state_2» = getD two t nan }
+
+unfoldable pub batchAt : List Float → List Float → ℕ → Batch
+batchAt one two b =
+    record { «mode_0» = stateAt one two b; «mode_1» = stateAt one two (6 + b); «mode_2» = stateAt one two (12 + b); «mode_3» = stateAt one two (18 + b) }
+
+unfoldable pub filtersOf : List Float → List Float → List Batch
+filtersOf one two = tab 6 (batchAt one two)
+
+-- ---- a frame
+
+pub record Bands : Type 0 where
+  pub «state_1» : List Float
+  pub «state_2» : List Float
+  pub bands : List Float
+
+abbrev pub modeIn : Modes → ℕ → Mode
+modeIn k t = record { g = getD (k .g) t nan; «r_plus_g» = getD (k .«r_plus_g») t nan; h = getD (k .h) t nan; gain = getD (k .gain) t nan }
+
+-- the sample through the mode at a place, and through all
+abbrev pub tickIn : Modes → List Float → List Float → Float → ℕ → Ticked
+tickIn k one two x t = tickOf (modeIn k t) (stateAt one two t) x
+
+unfoldable pub bandsOf : Modes → List Float → List Float → Float → Bands
+bandsOf k one two x =
+    record {
+      «state_1» = tab 24 (λ t. tickIn k one two x t .svf .«state_1»);
+      «state_2» = tab 24 (λ t. tickIn k one two x t .svf .«state_2»);
+      bands = tab 24 (λ t. getD (k .gain) t nan ⊗ tickIn k one two x t .bp);
+    }
+
+-- the sample through the mode at a place alone, and through n from a place on
+abbrev pub placeOf : Modes → Bands → Float → ℕ → Bands
+placeOf k b x t =
+    let o = tickIn k (b .«state_1») (b .«state_2») x t in
+    record {
+      «state_1» = set (b .«state_1») t (o .svf .«state_1»);
+      «state_2» = set (b .«state_2») t (o .svf .«state_2»);
+      bands = set (b .bands) t (getD (k .gain) t nan ⊗ o .bp);
+    }
+
+abbrev pub placesOf : ℕ → Modes → Bands → Float → ℕ → Bands
+placesOf zero k b x t = b
+placesOf (suc n) k b x t = placesOf n k (placeOf k b x t) x (t + 1)
+
+-- the sum of the batch b, and all sums added to y in turn
+unfoldable pub batchSum : List Float → ℕ → Float
+batchSum p b = c0 ⊕ getD p b nan ⊕ getD p (6 + b) nan ⊕ getD p (12 + b) nan ⊕ getD p (18 + b) nan
+
+unfoldable pub addBatches : Float → List Float → Float
+addBatches y p = y ⊕ batchSum p 0 ⊕ batchSum p 1 ⊕ batchSum p 2 ⊕ batchSum p 3 ⊕ batchSum p 4 ⊕ batchSum p 5
+
+abbrev pub frameOf : Modes → List Float × List Float → Float → Float → (List Float × List Float) × Float
+frameOf k s x y = let b = bandsOf k (s .0) (s .1) x in ((b .«state_1», b .«state_2»), addBatches y (b .bands))
+
+unfoldable pub onePass : Modes → List Batch → List Float → List Float → List Batch × List Float
+onePass k fs xs ys =
+    let s = statesOf fs in
+    let u = scan (frameOf k) (s .«state_1», s .«state_2») xs ys in
+    (filtersOf (u .0 .0) (u .0 .1), u .1)

@@ -1,0 +1,682 @@
+// Resonator, taken from Rings' code but with fixed position: 24 modes in six batches of four.
+ghost use mathlib.Core.Path.{_≡_};
+ghost use mathlib.Core.Bool.{_||_};
+ghost use Prim.Native.Nat.{_+_, _<_, _≤_};
+ghost use lib.ListN.{length};
+ghost use Rattle.ground.specs.F32.{_⊗_};
+ghost use Rattle.modes.specs.Subnormal.{isSmall};
+ghost use Rattle.modes.specs.Resonator.{svfNew, modeOf, tickOf, lowBlock, filtersNew, resonatorNew, resonatorInit, capOf, shrunk, nextOf, compensation, firstOf, lossOf, processOf};
+ghost use Rattle.modes.specs.OnePass.{tuned, modesOf, modesFor, putBatch, statesOf, stateAt, batchAt, filtersOf, Bands, bandsOf, placesOf, batchSum, addBatches, onePass};
+use crate::subnormal::product;
+use utils::filter::FrequencyApproximation;
+
+// What a mode keeps: ResonatorSvf<1>, and a mode of ResonatorSvf<4>.
+pub struct ResonatorSvf {
+    pub state_1: f32,
+    pub state_2: f32,
+}
+
+// ResonatorSvf<4>
+pub struct Batch {
+    pub mode_0: ResonatorSvf,
+    pub mode_1: ResonatorSvf,
+    pub mode_2: ResonatorSvf,
+    pub mode_3: ResonatorSvf,
+}
+
+pub struct Resonator {
+    pub mode_amplitude: [f32; 24],
+    pub mode_filters: [Batch; 6],
+}
+
+// The coefficients of a mode.
+pub struct Mode {
+    pub g: f32,
+    pub r_plus_g: f32,
+    pub h: f32,
+    pub gain: f32,
+}
+
+// A mode after a sample, and its band pass and low pass there.
+pub struct Ticked {
+    pub svf: ResonatorSvf,
+    pub bp: f32,
+    pub lp: f32,
+}
+
+// Where the loop over the modes stands.
+pub struct Partial {
+    pub harmonic: f32,
+    pub stretch_factor: f32,
+    pub stiffness: f32,
+    pub q: f32,
+}
+
+// mode_f, mode_q and mode_a of all modes.
+pub struct Tuned {
+    pub f: [f32; 24],
+    pub q: [f32; 24],
+    pub a: [f32; 24],
+}
+
+// The coefficients of all modes, the mode k of the batch b at 6 k + b, so that a frame adds the modes of six batches side by side.
+pub struct Modes {
+    pub g: [f32; 24],
+    pub r_plus_g: [f32; 24],
+    pub h: [f32; 24],
+    pub gain: [f32; 24],
+}
+
+// What all modes keep, at the same places.
+pub struct States {
+    pub state_1: [f32; 24],
+    pub state_2: [f32; 24],
+}
+
+// ---- ResonatorSvf
+
+impl ResonatorSvf {
+    // `new` and `init`
+    pub fn new() -> ResonatorSvf
+        ensures { λ r. ⌜ r ≡ svfNew ⌝ }
+    {
+        ResonatorSvf {
+            state_1: 0.0,
+            state_2: 0.0,
+        }
+    }
+
+    // `process` of one mode at LowPass, not added.
+    pub fn process_low(
+        self,
+        f: f32,
+        q: f32,
+        gain: f32,
+        in_: &[f32],
+        out: &mut [f32],
+    ) -> ResonatorSvf
+        ensures { λ r. ⌜ (r, now (out .exit)) ≡ lowBlock (modeOf f q gain) self (now (in_ .entry)) (now (out .entry)) ⌝ }
+    {
+        let k = mode_of(f, q, gain);
+        let n = utils::min_usize(in_.len(), out.len());
+        let mut svf = self;
+        let mut i = 0;
+        while i < n {
+            let t = tick(k, svf, in_[i]);
+            out[i] = 0.0 + k.gain * t.lp;
+            svf = t.svf;
+            i += 1;
+        }
+        svf
+    }
+}
+
+pub fn mode_of(f: f32, q: f32, gain: f32) -> Mode
+    ensures { λ r. ⌜ r ≡ modeOf f q gain ⌝ }
+{
+    let g = utils::filter::tan(f, FrequencyApproximation::Fast);
+    let r = 1.0 / q;
+    Mode {
+        g,
+        r_plus_g: r + g,
+        h: 1.0 / (1.0 + r * g + g * g),
+        gain,
+    }
+}
+
+pub fn tick(k: Mode, s: ResonatorSvf, x: f32) -> Ticked
+    ensures { λ r. ⌜ r ≡ tickOf k s x ⌝ }
+{
+    let hp = (x - k.r_plus_g * s.state_1 - s.state_2) * k.h;
+    let bp = k.g * hp + s.state_1;
+    let lp = k.g * bp + s.state_2;
+    let svf = ResonatorSvf {
+        state_1: k.g * hp + bp,
+        state_2: k.g * bp + lp,
+    };
+    Ticked { svf, bp, lp }
+}
+
+// ---- where numbers may be subnormal
+
+// Whether products of what a mode keeps may be subnormal.
+fn is_small(s: ResonatorSvf) -> bool
+    ensures { λ r. ⌜ r ≡ isSmall s ⌝ }
+{
+    (s.state_1 < 1.0e-35) & (s.state_1 > -1.0e-35) & (s.state_2 < 1.0e-35) & (s.state_2 > -1.0e-35)
+}
+
+// `tick`, its products taken as if they were subnormal.
+fn tick_small(k: Mode, s: ResonatorSvf, x: f32) -> Ticked
+    ensures { λ r. ⌜ r ≡ tickOf k s x ⌝ }
+{
+    let r = product(k.r_plus_g, s.state_1);
+    let hp = product(x - r - s.state_2, k.h);
+    let g_hp = product(k.g, hp);
+    let bp = g_hp + s.state_1;
+    let g_bp = product(k.g, bp);
+    let lp = g_bp + s.state_2;
+    let svf = ResonatorSvf {
+        state_1: g_hp + bp,
+        state_2: g_bp + lp,
+    };
+    Ticked { svf, bp, lp }
+}
+
+// `tick`; at `quiet` a small mode goes the other way.
+pub fn tick_at(quiet: bool, k: Mode, s: ResonatorSvf, x: f32) -> Ticked
+    ensures { λ r. ⌜ r ≡ tickOf k s x ⌝ }
+{
+    if quiet & is_small(s) {
+        return tick_small(k, s, x);
+    }
+    tick(k, s, x)
+}
+
+// A gain times a sample; at `quiet` as if it were subnormal.
+pub fn scale(quiet: bool, gain: f32, sample: f32) -> f32
+    ensures { λ r. ⌜ r ≡ gain ⊗ sample ⌝ }
+{
+    if quiet {
+        return product(gain, sample);
+    }
+    gain * sample
+}
+
+// ---- the modes of a block
+
+// A mode's frequency, at most 0.499.
+fn cap(f: f32) -> f32
+    ensures { λ r. ⌜ r ≡ capOf f ⌝ }
+{
+    if f >= 0.499 { 0.499 } else { f }
+}
+
+// The stiffness at the next mode.
+fn shrink(stiffness: f32) -> f32
+    ensures { λ r. ⌜ r ≡ shrunk stiffness ⌝ }
+{
+    if stiffness < 0.0 {
+        stiffness * 0.93
+    } else {
+        stiffness * 0.98
+    }
+}
+
+fn next_partial(f0: f32, q_loss: f32, p: Partial) -> Partial
+    ensures { λ r. ⌜ r ≡ nextOf f0 «q_loss» p ⌝ }
+{
+    Partial {
+        harmonic: p.harmonic + f0,
+        stretch_factor: p.stretch_factor + p.stiffness,
+        stiffness: shrink(p.stiffness),
+        q: p.q * q_loss,
+    }
+}
+
+fn nth_harmonic_compensation(n: usize, stiffness: f32) -> f32
+    requires { ⌜ 0 < n ⌝ }
+    ensures { λ r. ⌜ r ≡ compensation n stiffness ⌝ }
+{
+    let mut stretch_factor = 1.0f32;
+    let mut s = stiffness;
+    let mut i = 0;
+    while i < n - 1 {
+        stretch_factor += s;
+        s = shrink(s);
+        i += 1;
+    }
+    1.0 / stretch_factor
+}
+
+fn first_partial(f0: f32, stiffness: f32, q_sqrt: f32) -> Partial
+    ensures { λ r. ⌜ r ≡ firstOf f0 stiffness «q_sqrt» ⌝ }
+{
+    Partial {
+        harmonic: f0,
+        stretch_factor: 1.0,
+        stiffness,
+        q: 500.0 * q_sqrt * q_sqrt,
+    }
+}
+
+fn q_loss_of(structure: f32, brightness: f32, damping: f32) -> f32
+    ensures { λ r. ⌜ r ≡ lossOf structure brightness damping ⌝ }
+{
+    let b = brightness * (1.0 - structure * 0.3) * (1.0 - damping * 0.3);
+    b * (2.0 - b) * 0.85 + 0.15
+}
+
+fn tune(mode_amplitude: [f32; 24], f0: f32, q_loss: f32, first: Partial) -> Tuned
+    ensures { λ r. ⌜ r ≡ tuned «mode_amplitude» f0 «q_loss» first ⌝ }
+{
+    let mut f = [0.0f32; 24];
+    let mut q = [0.0f32; 24];
+    let mut a = [0.0f32; 24];
+    let mut p = first;
+    let mut i = 0;
+    while i < 24 {
+        let mode_frequency = cap(p.harmonic * p.stretch_factor);
+        f[i] = mode_frequency;
+        q[i] = 1.0 + mode_frequency * p.q;
+        a[i] = mode_amplitude[i] * (1.0 - mode_frequency * 2.0);
+        p = next_partial(f0, q_loss, p);
+        i += 1;
+    }
+    Tuned { f, q, a }
+}
+
+// The coefficients of all modes, each at its place.
+fn modes_of(t: Tuned) -> Modes
+    ensures { λ r. ⌜ r ≡ modesOf t ⌝ }
+{
+    let f = t.f;
+    let q = t.q;
+    let a = t.a;
+    let mut g = [0.0f32; 24];
+    let mut r_plus_g = [0.0f32; 24];
+    let mut h = [0.0f32; 24];
+    let mut gain = [0.0f32; 24];
+    let mut i = 0;
+    while i < 24 {
+        let m = 4 * (i % 6) + i / 6;
+        let k = mode_of(f[m], q[m], a[m]);
+        g[i] = k.g;
+        r_plus_g[i] = k.r_plus_g;
+        h[i] = k.h;
+        gain[i] = k.gain;
+        i += 1;
+    }
+    Modes {
+        g,
+        r_plus_g,
+        h,
+        gain,
+    }
+}
+
+pub fn modes_for(
+    mode_amplitude: [f32; 24],
+    f0: f32,
+    structure: f32,
+    brightness: f32,
+    damping: f32,
+) -> Modes
+    ensures { λ r. ⌜ r ≡ modesFor «mode_amplitude» f0 structure brightness damping ⌝ }
+{
+    let stiffness = utils::interpolate(structure);
+    let f = f0 * nth_harmonic_compensation(3, stiffness);
+    let q_sqrt = utils::units::semitones_to_ratio(damping * 79.7);
+    let first = first_partial(f, stiffness, q_sqrt);
+    let q_loss = q_loss_of(structure, brightness, damping);
+    modes_of(tune(mode_amplitude, f, q_loss, first))
+}
+
+// ---- what the modes keep, in batches and side by side
+
+// A batch's states to their places.
+fn put_batch(batch: Batch, b: usize, state_1: &mut [f32; 24], state_2: &mut [f32; 24])
+    requires { ⌜ b < 6 ⌝ }
+    ensures { λ _. ⌜ (now («state_1» .exit), now («state_2» .exit)) ≡ putBatch batch b (now («state_1» .entry)) (now («state_2» .entry)) ⌝ }
+{
+    state_1[b] = batch.mode_0.state_1;
+    state_1[6 + b] = batch.mode_1.state_1;
+    state_1[12 + b] = batch.mode_2.state_1;
+    state_1[18 + b] = batch.mode_3.state_1;
+    state_2[b] = batch.mode_0.state_2;
+    state_2[6 + b] = batch.mode_1.state_2;
+    state_2[12 + b] = batch.mode_2.state_2;
+    state_2[18 + b] = batch.mode_3.state_2;
+}
+
+pub fn states_of(mode_filters: [Batch; 6]) -> States
+    ensures { λ r. ⌜ r ≡ statesOf «mode_filters» ⌝ }
+{
+    let mut state_1 = [0.0f32; 24];
+    let mut state_2 = [0.0f32; 24];
+    put_batch(mode_filters[0], 0, &mut state_1, &mut state_2);
+    put_batch(mode_filters[1], 1, &mut state_1, &mut state_2);
+    put_batch(mode_filters[2], 2, &mut state_1, &mut state_2);
+    put_batch(mode_filters[3], 3, &mut state_1, &mut state_2);
+    put_batch(mode_filters[4], 4, &mut state_1, &mut state_2);
+    put_batch(mode_filters[5], 5, &mut state_1, &mut state_2);
+    States { state_1, state_2 }
+}
+
+fn mode_at(state_1: &[f32; 24], state_2: &[f32; 24], t: usize) -> ResonatorSvf
+    requires { ⌜ t < 24 ⌝ }
+    ensures { λ r. ⌜ r ≡ stateAt (now («state_1» .entry)) (now («state_2» .entry)) t ⌝ }
+{
+    ResonatorSvf {
+        state_1: state_1[t],
+        state_2: state_2[t],
+    }
+}
+
+fn batch_at(state_1: &[f32; 24], state_2: &[f32; 24], b: usize) -> Batch
+    requires { ⌜ b < 6 ⌝ }
+    ensures { λ r. ⌜ r ≡ batchAt (now («state_1» .entry)) (now («state_2» .entry)) b ⌝ }
+{
+    let mode_0 = mode_at(state_1, state_2, b);
+    let mode_1 = mode_at(state_1, state_2, 6 + b);
+    let mode_2 = mode_at(state_1, state_2, 12 + b);
+    let mode_3 = mode_at(state_1, state_2, 18 + b);
+    Batch {
+        mode_0,
+        mode_1,
+        mode_2,
+        mode_3,
+    }
+}
+
+pub fn filters_of(state_1: &[f32; 24], state_2: &[f32; 24]) -> [Batch; 6]
+    ensures { λ r. ⌜ r ≡ filtersOf (now («state_1» .entry)) (now («state_2» .entry)) ⌝ }
+{
+    [
+        batch_at(state_1, state_2, 0),
+        batch_at(state_1, state_2, 1),
+        batch_at(state_1, state_2, 2),
+        batch_at(state_1, state_2, 3),
+        batch_at(state_1, state_2, 4),
+        batch_at(state_1, state_2, 5),
+    ]
+}
+
+// ---- a frame
+
+// A sample through all modes: their states, and what is heard of each.
+pub fn tick_all(
+    g: &[f32; 24],
+    r_plus_g: &[f32; 24],
+    h: &[f32; 24],
+    gain: &[f32; 24],
+    state_1: &mut [f32; 24],
+    state_2: &mut [f32; 24],
+    bands: &mut [f32; 24],
+    x: f32,
+)
+    requires { ⌜ (length (now «state_1») ≡ 24) × (length (now «state_2») ≡ 24) × (length (now bands) ≡ 24) ⌝ }
+    ensures { λ _. ⌜ record { «state_1» = now («state_1» .exit); «state_2» = now («state_2» .exit); bands = now (bands .exit) } ≡ bandsOf (record { g = now (g .entry); «r_plus_g» = now («r_plus_g» .entry); h = now (h .entry); gain = now (gain .entry) }) (now («state_1» .entry)) (now («state_2» .entry)) x ⌝ }
+{
+    let mut i = 0;
+    while i < 24 {
+        let k = Mode {
+            g: g[i],
+            r_plus_g: r_plus_g[i],
+            h: h[i],
+            gain: gain[i],
+        };
+        let s = ResonatorSvf {
+            state_1: state_1[i],
+            state_2: state_2[i],
+        };
+        let t = tick(k, s, x);
+        state_1[i] = t.svf.state_1;
+        state_2[i] = t.svf.state_2;
+        bands[i] = k.gain * t.bp;
+        i += 1;
+    }
+}
+
+// Whether one of four modes from i on is small.
+fn any_small(state_1: &[f32; 24], state_2: &[f32; 24], i: usize) -> bool
+    requires { ⌜ i + 4 ≤ 24 ⌝ }
+    ensures { λ r. ⌜ r ≡ (isSmall (stateAt (now («state_1» .entry)) (now («state_2» .entry)) i) || isSmall (stateAt (now («state_1» .entry)) (now («state_2» .entry)) (i + 1)) || isSmall (stateAt (now («state_1» .entry)) (now («state_2» .entry)) (i + 2)) || isSmall (stateAt (now («state_1» .entry)) (now («state_2» .entry)) (i + 3))) ⌝ }
+{
+    is_small(mode_at(state_1, state_2, i))
+        | is_small(mode_at(state_1, state_2, i + 1))
+        | is_small(mode_at(state_1, state_2, i + 2))
+        | is_small(mode_at(state_1, state_2, i + 3))
+}
+
+// A sample through four modes from i on.
+fn tick_four(
+    g: &[f32; 24],
+    r_plus_g: &[f32; 24],
+    h: &[f32; 24],
+    gain: &[f32; 24],
+    state_1: &mut [f32; 24],
+    state_2: &mut [f32; 24],
+    bands: &mut [f32; 24],
+    x: f32,
+    i: usize,
+)
+    requires { ⌜ i + 4 ≤ 24 ⌝ }
+    ensures { λ _. ⌜ record { «state_1» = now («state_1» .exit); «state_2» = now («state_2» .exit); bands = now (bands .exit) } ≡ placesOf 4 (record { g = now (g .entry); «r_plus_g» = now («r_plus_g» .entry); h = now (h .entry); gain = now (gain .entry) }) (record { «state_1» = now («state_1» .entry); «state_2» = now («state_2» .entry); bands = now (bands .entry) }) x i ⌝ }
+{
+    let end = i + 4;
+    let mut j = i;
+    while j < end {
+        let k = Mode {
+            g: g[j],
+            r_plus_g: r_plus_g[j],
+            h: h[j],
+            gain: gain[j],
+        };
+        let s = ResonatorSvf {
+            state_1: state_1[j],
+            state_2: state_2[j],
+        };
+        let t = tick(k, s, x);
+        state_1[j] = t.svf.state_1;
+        state_2[j] = t.svf.state_2;
+        bands[j] = scale(false, k.gain, t.bp);
+        j += 1;
+    }
+}
+
+// The same, where some of them are small.
+fn tick_four_small(
+    g: &[f32; 24],
+    r_plus_g: &[f32; 24],
+    h: &[f32; 24],
+    gain: &[f32; 24],
+    state_1: &mut [f32; 24],
+    state_2: &mut [f32; 24],
+    bands: &mut [f32; 24],
+    x: f32,
+    i: usize,
+)
+    requires { ⌜ i + 4 ≤ 24 ⌝ }
+    ensures { λ _. ⌜ record { «state_1» = now («state_1» .exit); «state_2» = now («state_2» .exit); bands = now (bands .exit) } ≡ placesOf 4 (record { g = now (g .entry); «r_plus_g» = now («r_plus_g» .entry); h = now (h .entry); gain = now (gain .entry) }) (record { «state_1» = now («state_1» .entry); «state_2» = now («state_2» .entry); bands = now (bands .entry) }) x i ⌝ }
+{
+    let end = i + 4;
+    let mut j = i;
+    while j < end {
+        let k = Mode {
+            g: g[j],
+            r_plus_g: r_plus_g[j],
+            h: h[j],
+            gain: gain[j],
+        };
+        let s = ResonatorSvf {
+            state_1: state_1[j],
+            state_2: state_2[j],
+        };
+        let t = tick_at(true, k, s, x);
+        state_1[j] = t.svf.state_1;
+        state_2[j] = t.svf.state_2;
+        bands[j] = scale(true, k.gain, t.bp);
+        j += 1;
+    }
+}
+
+// The one or the other.
+fn tick_four_at(
+    g: &[f32; 24],
+    r_plus_g: &[f32; 24],
+    h: &[f32; 24],
+    gain: &[f32; 24],
+    state_1: &mut [f32; 24],
+    state_2: &mut [f32; 24],
+    bands: &mut [f32; 24],
+    x: f32,
+    i: usize,
+)
+    requires { ⌜ i + 4 ≤ 24 ⌝ }
+    ensures { λ _. ⌜ record { «state_1» = now («state_1» .exit); «state_2» = now («state_2» .exit); bands = now (bands .exit) } ≡ placesOf 4 (record { g = now (g .entry); «r_plus_g» = now («r_plus_g» .entry); h = now (h .entry); gain = now (gain .entry) }) (record { «state_1» = now («state_1» .entry); «state_2» = now («state_2» .entry); bands = now (bands .entry) }) x i ⌝ }
+{
+    if any_small(state_1, state_2, i) {
+        tick_four_small(g, r_plus_g, h, gain, state_1, state_2, bands, x, i);
+        return;
+    }
+    tick_four(g, r_plus_g, h, gain, state_1, state_2, bands, x, i);
+}
+
+// `tick_all`, four modes at a time, for a block whose modes have died away in part.
+fn tick_fours(
+    g: &[f32; 24],
+    r_plus_g: &[f32; 24],
+    h: &[f32; 24],
+    gain: &[f32; 24],
+    state_1: &mut [f32; 24],
+    state_2: &mut [f32; 24],
+    bands: &mut [f32; 24],
+    x: f32,
+)
+    requires { ⌜ (length (now «state_1») ≡ 24) × (length (now «state_2») ≡ 24) × (length (now bands) ≡ 24) ⌝ }
+    ensures { λ _. ⌜ record { «state_1» = now («state_1» .exit); «state_2» = now («state_2» .exit); bands = now (bands .exit) } ≡ bandsOf (record { g = now (g .entry); «r_plus_g» = now («r_plus_g» .entry); h = now (h .entry); gain = now (gain .entry) }) (now («state_1» .entry)) (now («state_2» .entry)) x ⌝ }
+{
+    let mut i = 0;
+    while i < 24 {
+        tick_four_at(g, r_plus_g, h, gain, state_1, state_2, bands, x, i);
+        i += 4;
+    }
+}
+
+// A sample through all modes; where it is small, some modes may be too.
+pub fn tick_frame(
+    g: &[f32; 24],
+    r_plus_g: &[f32; 24],
+    h: &[f32; 24],
+    gain: &[f32; 24],
+    state_1: &mut [f32; 24],
+    state_2: &mut [f32; 24],
+    bands: &mut [f32; 24],
+    x: f32,
+)
+    requires { ⌜ (length (now «state_1») ≡ 24) × (length (now «state_2») ≡ 24) × (length (now bands) ≡ 24) ⌝ }
+    ensures { λ _. ⌜ record { «state_1» = now («state_1» .exit); «state_2» = now («state_2» .exit); bands = now (bands .exit) } ≡ bandsOf (record { g = now (g .entry); «r_plus_g» = now («r_plus_g» .entry); h = now (h .entry); gain = now (gain .entry) }) (now («state_1» .entry)) (now («state_2» .entry)) x ⌝ }
+{
+    if (x < 1.0e-35) & (x > -1.0e-35) {
+        tick_fours(g, r_plus_g, h, gain, state_1, state_2, bands, x);
+        return;
+    }
+    tick_all(g, r_plus_g, h, gain, state_1, state_2, bands, x);
+}
+
+// The sum of the batch b.
+fn batch_sum(bands: &[f32; 24], b: usize) -> f32
+    requires { ⌜ b < 6 ⌝ }
+    ensures { λ r. ⌜ r ≡ batchSum (now (bands .entry)) b ⌝ }
+{
+    0.0 + bands[b] + bands[6 + b] + bands[12 + b] + bands[18 + b]
+}
+
+// The sum of each batch, added to y in turn.
+pub fn add_batches(y: f32, bands: &[f32; 24]) -> f32
+    ensures { λ r. ⌜ r ≡ addBatches y (now (bands .entry)) ⌝ }
+{
+    y
+        + batch_sum(bands, 0)
+        + batch_sum(bands, 1)
+        + batch_sum(bands, 2)
+        + batch_sum(bands, 3)
+        + batch_sum(bands, 4)
+        + batch_sum(bands, 5)
+}
+
+// Each frame through all modes.
+fn run_frames(k: Modes, mode_filters: [Batch; 6], in_: &[f32], out: &mut [f32]) -> [Batch; 6]
+    ensures { λ r. ⌜ (r, now (out .exit)) ≡ onePass k «mode_filters» (now (in_ .entry)) (now (out .entry)) ⌝ }
+{
+    let g = k.g;
+    let r_plus_g = k.r_plus_g;
+    let h = k.h;
+    let gain = k.gain;
+    let states = states_of(mode_filters);
+    let mut state_1 = states.state_1;
+    let mut state_2 = states.state_2;
+    let mut bands = [0.0f32; 24];
+    let n = utils::min_usize(in_.len(), out.len());
+    let mut i = 0;
+    while i < n {
+        let x = in_[i];
+        tick_all(
+            &g,
+            &r_plus_g,
+            &h,
+            &gain,
+            &mut state_1,
+            &mut state_2,
+            &mut bands,
+            x,
+        );
+        out[i] = add_batches(out[i], &bands);
+        i += 1;
+    }
+    filters_of(&state_1, &state_2)
+}
+
+// ---- Resonator
+
+impl Resonator {
+    pub fn new() -> Resonator
+        ensures { λ r. ⌜ r ≡ resonatorNew ⌝ }
+    {
+        let mode_amplitude = [0.0f32; 24];
+        let mode_filters = cleared();
+        Resonator {
+            mode_amplitude,
+            mode_filters,
+        }
+    }
+
+    // `init` at a position, with all 24 modes.
+    pub fn init(self, position: f32) -> Resonator
+        ensures { λ r. ⌜ r ≡ resonatorInit self position ⌝ }
+    {
+        let mode_amplitude = utils::cosine_oscillator::amplitudes(position);
+        let mode_filters = cleared();
+        Resonator {
+            mode_amplitude,
+            mode_filters,
+        }
+    }
+
+    // The six batches in one pass over the frames.
+    pub fn process(
+        self,
+        f0: f32,
+        structure: f32,
+        brightness: f32,
+        damping: f32,
+        in_: &[f32],
+        out: &mut [f32],
+    ) -> Resonator
+        ensures { λ r. ⌜ (r, now (out .exit)) ≡ processOf self f0 structure brightness damping (now (in_ .entry)) (now (out .entry)) ⌝ }
+    {
+        let mode_amplitude = self.mode_amplitude;
+        let before = self.mode_filters;
+        let k = modes_for(mode_amplitude, f0, structure, brightness, damping);
+        let mode_filters = run_frames(k, before, in_, out);
+        Resonator {
+            mode_amplitude,
+            mode_filters,
+        }
+    }
+}
+
+// Six batches of four, each state 0.
+fn cleared() -> [Batch; 6]
+    ensures { λ r. ⌜ r ≡ filtersNew ⌝ }
+{
+    let svf = ResonatorSvf::new();
+    let batch = Batch {
+        mode_0: svf,
+        mode_1: svf,
+        mode_2: svf,
+        mode_3: svf,
+    };
+    [batch; 6]
+}

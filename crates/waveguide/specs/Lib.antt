@@ -1,0 +1,2 @@
+-- What the functions of `waveguide` are proved equal to. Assumes nothing.
+pub mod String

@@ -1,0 +1,2 @@
+// The string as a digital waveguide.
+pub mod string;
