@@ -6,13 +6,17 @@
 
 .PHONY: render test bench compare record
 
+SHELL := bash
+.SHELLFLAGS := -o pipefail -c
+
 libraries := target/staticlib
 sources := crates.txt $(shell find crates -path '*/must-fail' -prune -o \( -name '*.rt' -o -name '*.antt' \) -print)
 
 # A library is proved and built again only where a source has changed.
 $(libraries)/lib%.a: $(sources)
 	@echo "proving and building $*: some minutes the first time"
-	@rt staticlib $* >/dev/null
+	@mkdir -p target
+	@rt staticlib $* 2>&1 | tee target/staticlib.log | grep '^rt: ' || { tail -n 30 target/staticlib.log; exit 1; }
 
 render: $(libraries)/libbank_abi.a
 	@host/cargo build --quiet --release -p bleidhvan

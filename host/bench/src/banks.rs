@@ -26,6 +26,7 @@ fn port(bank: &mut Bank, kind: Kind, setting: Setting, blocks: usize, buffers: &
     let Setting(_, sustain, f0, structure) = setting;
     let knobs =
         Knobs { sustain, trigger: true, accent: 0.5, f0, structure, brightness: 0.5, damping: 0.6 };
+    bank.reseed(33);
     bank.open(SLOT, kind, 48000.0).expect("the opening is accepted");
     for _ in 0..blocks {
         let buffers = buffers.each_mut().map(|buffer| &mut buffer[..]);

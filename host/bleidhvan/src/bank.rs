@@ -95,6 +95,11 @@ impl Bank {
         self.word
     }
 
+    /// Sets the generator's word, from which the next words are drawn.
+    pub fn reseed(&mut self, word: u32) {
+        self.word = word;
+    }
+
     /// The bank as it crosses to the proved library.
     pub fn bytes(&self) -> &[u8] {
         &self.bytes
