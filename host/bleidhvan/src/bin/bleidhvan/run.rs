@@ -22,7 +22,7 @@ pub struct Sum {
 }
 
 /// The rows that a job has in hand at a time, so that memory does not grow with the sheet.
-const IN_HAND: usize = 32;
+const IN_HAND: usize = 8;
 
 /// A row with its name, or why it has none of its own.
 struct Ordered {
