@@ -90,7 +90,7 @@ except wave.Error as error:
         size = struct.unpack('<I', data[at + 4:at + 8])[0]
         chunks[data[at:at + 4]] = data[at + 8:at + 8 + size]
         at += 8 + size
-    tag, channels, rate, byte_rate, align, bits = struct.unpack('<HHIIHH', chunks[b'fmt '])
+    tag, channels, rate, byte_rate, align, bits = struct.unpack('<HHIIHH', chunks[b'fmt '][:16])
     assert (tag, byte_rate, align, bits) == (3, 4 * channels * rate, 4 * channels, 32)
     frames = struct.unpack('<I', chunks[b'fact'])[0]
     assert len(chunks[b'data']) == frames * align

@@ -18,10 +18,15 @@ impl Format {
             Format::Int16 => 2,
         }
     }
-}
 
-/// The bytes of the header; the fact chunk counts the frames.
-const HEADER: u64 = 56;
+    /// The bytes of the header: floats have an extended format, and a chunk that counts the frames.
+    fn header_bytes(self) -> u32 {
+        match self {
+            Format::Float32 => 58,
+            Format::Int16 => 44,
+        }
+    }
+}
 
 /// A file that has the name of its part until it is finished, and is removed where it is not.
 pub struct Part {
@@ -91,13 +96,13 @@ pub struct Wav {
 impl Wav {
     pub fn create(path: &Path, format: Format, channels: u32, rate: u32) -> io::Result<Self> {
         let mut wav = Wav { part: Part::create(path)?, format, channels, rate, frames: 0 };
-        wav.part.write_all(&[0; HEADER as usize])?;
+        wav.part.write_all(&vec![0; format.header_bytes() as usize])?;
         Ok(wav)
     }
 
     /// The most frames of a file.
     pub fn most_frames(format: Format, channels: u32) -> u64 {
-        (u64::from(u32::MAX) - HEADER) / u64::from(format.bytes() * channels)
+        u64::from(u32::MAX - format.header_bytes()) / u64::from(format.bytes() * channels)
     }
 
     /// Adds a block, its channels side by side.
@@ -126,21 +131,25 @@ impl Wav {
     fn header(&self) -> Vec<u8> {
         let (bytes, channels) = (self.format.bytes(), self.channels);
         let data = self.frames * bytes * channels;
-        let tag: u16 = if self.format == Format::Float32 { 3 } else { 1 };
+        let is_float = self.format == Format::Float32;
         let mut header = Vec::new();
         header.extend(b"RIFF");
-        header.extend((HEADER as u32 - 8 + data).to_le_bytes());
+        header.extend((self.format.header_bytes() - 8 + data).to_le_bytes());
         header.extend(b"WAVEfmt ");
-        header.extend(16u32.to_le_bytes());
-        header.extend(tag.to_le_bytes());
+        header.extend(if is_float { 18u32 } else { 16 }.to_le_bytes());
+        header.extend(if is_float { 3u16 } else { 1 }.to_le_bytes());
         header.extend((channels as u16).to_le_bytes());
         header.extend(self.rate.to_le_bytes());
         header.extend((self.rate * bytes * channels).to_le_bytes());
         header.extend(((bytes * channels) as u16).to_le_bytes());
         header.extend((8 * bytes as u16).to_le_bytes());
-        header.extend(b"fact");
-        header.extend(4u32.to_le_bytes());
-        header.extend(self.frames.to_le_bytes());
+        if is_float {
+            // No extension of the format follows.
+            header.extend(0u16.to_le_bytes());
+            header.extend(b"fact");
+            header.extend(4u32.to_le_bytes());
+            header.extend(self.frames.to_le_bytes());
+        }
         header.extend(b"data");
         header.extend(data.to_le_bytes());
         header
