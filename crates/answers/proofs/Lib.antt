@@ -1,3 +1,2 @@
 -- Laws that the proofs of this crate and of others cite. Assumes nothing.
 pub mod Counting
-pub mod Floats

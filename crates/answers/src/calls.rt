@@ -7,8 +7,8 @@ use crate::draws;
 use crate::format;
 use crate::print;
 use crate::words;
-use crate::words::float_of;
-use crate::words::pattern_of;
+use ground::bits::float_of;
+use ground::bits::pattern_of;
 use noise::excitation::Knobs;
 
 // The words of a call.

@@ -1,7 +1,7 @@
 // The generator of the record's inputs, the shapes of drawn words, the contents of buffers, and digests.
 use crate::words;
-use crate::words::float_of;
-use crate::words::pattern_of;
+use ground::bits::float_of;
+use ground::bits::pattern_of;
 
 // The word after w.
 pub fn next(w: u32) -> u32 {

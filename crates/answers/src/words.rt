@@ -1,8 +1,7 @@
-// Words of 32 bits: as four bytes, as a float, as a number.
+// Words of 32 bits: as four bytes, as a number.
 ghost use mathlib.Core.Path.{_≡_};
 ghost use Prim.Native.Nat.{_+_, _≤_, _<_};
 ghost use lib.ListN.{length};
-ghost use lib.Ieee.{binary32, ofBits, toBits};
 ghost use Rattle.answers.specs.Words.{wordAt};
 
 // A byte as a word.
@@ -22,26 +21,6 @@ pub fn get_u32(b: &[u8], at: usize) -> u32
     let b2 = wide(b[at + 2]);
     let b3 = wide(b[at + 3]);
     b0 + b1 * 256 + b2 * 65536 + b3 * 16777216
-}
-
-// The float of a pattern; every NaN pattern is the one NaN.
-pub fn float_of(pattern: u32) -> f32
-    ensures { λ r. ⌜ r ≡ ofBits binary32 pattern ⌝ }
-{
-    if pattern % 2147483648 > 2139095040 {
-        return 0.0 / 0.0;
-    }
-    f32::from_bits(pattern)
-}
-
-// The pattern of a float; the NaN has one, 0x7fc00000.
-pub fn pattern_of(x: f32) -> u32
-    ensures { λ r. ⌜ r ≡ toBits binary32 x ⌝ }
-{
-    if x != x {
-        return 2143289344;
-    }
-    f32::to_bits(x)
 }
 
 // A word as a number of things.

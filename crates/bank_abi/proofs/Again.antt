@@ -21,7 +21,7 @@ use Rattle.bank_abi.specs.Words.{wordOf, words, bytes, each}
 use Rattle.bank_abi.specs.Layout.{SlotF32, bits, svfIn, dcIn, stringIn, voiceIn, modeIn, batchIn, modalIn, slotIn, decodeSlot, svfWords, dcWords, stringWords, voiceWords, modeWords, batchWords, floatWords, modalWords, slotWords, flagOf, encodeSlot}
 use Rattle.bank_abi.specs.Crossing.{parts, decodeBank, encodeBank, withBytes}
 use Rattle.bank_abi.specs.Claims.{Numbers, DecodeEncodeBank, isNumber, kept, EncodeDecode, Words, Untouched}
-use Rattle.bank_abi.proofs.Floats.{is-nan}
+use Rattle.ground.proofs.Nans.{is-nan}
 use Rattle.bank_abi.proofs.Little.{length-slot-bytes}
 use Rattle.bank_abi.proofs.Back.{Small, tab-same, decode-encode}
 

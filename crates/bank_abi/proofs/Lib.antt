@@ -1,6 +1,5 @@
 -- Laws of the bytes.
 pub mod Little
-pub mod Floats
 pub mod Parts
 pub mod Back
 pub mod Again

@@ -3,7 +3,6 @@ ghost use mathlib.Core.Path.{_≡_};
 ghost use mathlib.Core.List.{[], _∷_};
 ghost use Prim.Native.Nat.{_+_, _*_, _≤_, _<_};
 ghost use lib.ListN.{length, getD};
-ghost use lib.Ieee.{binary32, ofBits, toBits};
 ghost use Rattle.bank_abi.specs.Words.{words, putWords};
 ghost use Rattle.bank_abi.specs.Layout.{F32, floatIn, floatWords};
 
@@ -39,37 +38,17 @@ pub fn put_word(b: &mut [u8], k: usize, v: usize)
     b[at + 3] = (v / 16777216 % 256) as u8;
 }
 
-// The float of a pattern; every NaN pattern is the one NaN.
-fn float_of(pattern: u32) -> f32
-    ensures { λ r. ⌜ r ≡ ofBits binary32 pattern ⌝ }
-{
-    if pattern % 2147483648 > 2139095040 {
-        return 0.0 / 0.0;
-    }
-    f32::from_bits(pattern)
-}
-
-// The pattern of a float; the NaN has one, 0x7fc00000.
-fn pattern_of(x: f32) -> u32
-    ensures { λ r. ⌜ r ≡ toBits binary32 x ⌝ }
-{
-    if x != x {
-        return 2143289344;
-    }
-    f32::to_bits(x)
-}
-
 pub fn float_at(b: &[u8], k: usize) -> f32
     requires { ⌜ 4 * k + 4 ≤ length (now b) ⌝ }
     ensures { λ r. ⌜ r ≡ floatIn (words (now (b .entry))) k ⌝ }
 {
-    float_of(word_at(b, k))
+    ground::bits::float_of(word_at(b, k))
 }
 
 pub fn put_float(b: &mut [u8], k: usize, x: f32)
     requires { ⌜ 4 * k + 4 ≤ length (now b) ⌝ }
     ensures { λ _. ⌜ (now (b .exit) ≡ putWords k (floatWords x) (now (b .entry))) × F32 x ⌝ }
 {
-    let w = pattern_of(x);
+    let w = ground::bits::pattern_of(x);
     put_word(b, k, w as usize);
 }

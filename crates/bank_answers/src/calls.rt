@@ -8,9 +8,9 @@ use answers::calls::with_buffers;
 use answers::calls::with_no_buffers;
 use answers::draws;
 use answers::words;
-use answers::words::float_of;
 use bank::answers::Answer;
 use bank::slots::Bank;
+use ground::bits::float_of;
 
 // The bank and the generator's word after a call, and the call's row.
 pub struct Made {

@@ -9,3 +9,4 @@ pub mod Rounding
 pub mod Signs
 pub mod Wholes
 pub mod Feed
+pub mod Nans

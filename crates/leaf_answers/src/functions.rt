@@ -83,7 +83,7 @@ pub fn digest(function: u32, seed: u32, count: u32, shapes: u32) -> u32 {
 
 // The bits of a float as the one output.
 pub fn one(x: f32) -> [u32; 7] {
-    [words::pattern_of(x), 0, 0, 0, 0, 0, 0]
+    [ground::bits::pattern_of(x), 0, 0, 0, 0, 0, 0]
 }
 
 // Words that no function answers.

@@ -9,7 +9,7 @@ use answers::calls::no_row;
 use answers::calls::with_block;
 use answers::calls::with_no_block;
 use answers::draws;
-use answers::words::pattern_of;
+use ground::bits::pattern_of;
 use modal_voice::modal_voice::ModalVoice;
 use modes::resonator::Batch;
 use modes::resonator::ResonatorSvf;

@@ -12,8 +12,8 @@ use answers::calls::with_block;
 use answers::calls::with_no_block;
 use answers::draws;
 use answers::words;
-use answers::words::float_of;
-use answers::words::pattern_of;
+use ground::bits::float_of;
+use ground::bits::pattern_of;
 use string_voice::string_voice::StringVoice;
 use utils::filter::Svf;
 

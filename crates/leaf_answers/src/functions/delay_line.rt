@@ -3,8 +3,8 @@ ghost use Prim.Native.Nat.{_<_};
 ghost use lib.ListN.{length};
 use answers::draws;
 use answers::words;
-use answers::words::float_of;
-use answers::words::pattern_of;
+use ground::bits::float_of;
+use ground::bits::pattern_of;
 use utils::delay_line::AllpassOut;
 
 // Writes samples from a seed, as many as said, from the place 0 on, and gives the next place.

@@ -1,7 +1,7 @@
 // What the Rust does to an f32 by `as usize`, `min`, `clamp` and `abs`.
 use crate::functions::one;
 use answers::words;
-use answers::words::float_of;
+use ground::bits::float_of;
 
 pub fn whole_part(x: u32) -> [u32; 7] {
     let whole = ground::floats::whole_part(float_of(x));

@@ -2,8 +2,8 @@
 use crate::functions::no_answer;
 use crate::functions::one;
 use answers::words;
-use answers::words::float_of;
-use answers::words::pattern_of;
+use ground::bits::float_of;
+use ground::bits::pattern_of;
 use utils::parameter_interpolator::ParameterInterpolator;
 
 pub fn interpolate(structure: u32) -> [u32; 7] {

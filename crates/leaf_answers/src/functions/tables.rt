@@ -2,7 +2,7 @@
 use crate::functions::no_answer;
 use crate::functions::one;
 use answers::words;
-use answers::words::float_of;
+use ground::bits::float_of;
 
 pub fn semitones_to_ratio(semitones: u32) -> [u32; 7] {
     one(utils::units::semitones_to_ratio(float_of(semitones)))

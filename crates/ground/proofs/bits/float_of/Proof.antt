@@ -1,12 +1,12 @@
--- `words::float_of` meets its contract.
-use Rattle.bank_abi.proofs.Floats.{is-nan}
+-- `ground::bits::float_of` meets its contract. Assumes nothing.
+use Rattle.ground.proofs.Nans.{is-nan}
 use borrow.Author.Tests.{lt-ltb, le-ltb}
 use lib.Ieee.Bits.{nanBits-is, nanBits-above}
 use lib.Ieee.{binary32, ofBits, div}
 use mathlib.Core.Path.{sym, _∙_}
 use borrow.Author.Needs.{needs}
-use Rattle.bank_abi.proofs.words.float_of.Statement.{statement}
-use Rattle.bank_abi.proofs.words.float_of.Tie as tie
+use Rattle.ground.proofs.bits.float_of.Statement.{statement}
+use Rattle.ground.proofs.bits.float_of.Tie as tie
 
 returns : tie.Need-returns
 unfolding div ofBits

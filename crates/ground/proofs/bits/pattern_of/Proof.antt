@@ -1,10 +1,10 @@
--- `words::pattern_of` meets its contract.
-use Rattle.bank_abi.proofs.Floats.{not-nan}
+-- `ground::bits::pattern_of` meets its contract. Assumes nothing.
+use Rattle.ground.proofs.Nans.{not-nan}
 use lib.Ieee.Compare.{differs-from-itself}
 use lib.Ieee.{toBits}
 use borrow.Author.Needs.{needs}
-use Rattle.bank_abi.proofs.words.pattern_of.Statement.{statement}
-use Rattle.bank_abi.proofs.words.pattern_of.Tie as tie
+use Rattle.ground.proofs.bits.pattern_of.Statement.{statement}
+use Rattle.ground.proofs.bits.pattern_of.Tie as tie
 
 returns : tie.Need-returns
 unfolding toBits
