@@ -324,6 +324,7 @@ fn a_full_disk_loses_one_note_and_leaves_no_part() {
     let out = folder.path("notes");
     fs::create_dir_all(&out).expect("a folder is made");
     let part = out.join("pluck.wav.part");
+    assert!(Path::new("/dev/full").exists(), "the test needs a device that is always full");
     std::os::unix::fs::symlink("/dev/full", &part).expect("a link is made");
     let sheet = folder.sheet(GOOD);
     let (status, text, _) = said(&tool(&[&"render", &sheet, &"-o", &out]));
