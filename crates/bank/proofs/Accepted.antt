@@ -9,7 +9,7 @@ use lib.ListN.{length, getD}
 use lib.Ieee.{Float}
 use borrow.Author.Tests.{eqb-true, eqb-false, ltb-false, leb-false, not-false}
 use Rattle.noise.specs.declared.excitation.Knobs.{Knobs}
-use Rattle.modal_voice.specs.OneLoop.{Alike}
+use Rattle.noise.specs.Excitation.{Alike}
 use Rattle.bank.specs.declared.answers.Reason.{Reason}
 use Rattle.bank.specs.declared.answers.Reason.the-variants as R
 use Rattle.bank.specs.declared.answers.Verdict.the-variants.{Accepted}

@@ -6,7 +6,7 @@ ghost use lib.ListN.{length};
 ghost use lib.Ieee.{Float};
 ghost use Rattle.bank.specs.Answers.{noCounts};
 ghost use Rattle.bank.specs.Calls.{opening, reset, render, lent};
-ghost use Rattle.modal_voice.specs.OneLoop.{Alike};
+ghost use Rattle.noise.specs.Excitation.{Alike};
 ghost use Rattle.bank.specs.World.{movedBy, Ready};
 use crate::slots::Slot;
 use noise::excitation::Counts;
@@ -60,7 +60,7 @@ fn render_string(
     out: &mut [f32],
     aux: &mut [f32],
 ) -> Acted
-    requires { ⌜ Ready x (now lines) slot (now out) × (x .kind ≡ 1) ⌝ }
+    requires { ⌜ Ready x (now lines) slot (now out) × (x .kind ≡ 1) × Alike (now temp) (now «temp_2») (now out) (now aux) ⌝ }
     ensures { λ r. ⌜ movedBy (render k (record { temp = now (temp .entry); temp2 = now («temp_2» .entry); out = now (out .entry); aux = now (aux .entry) })) slot x word (now (lines .entry)) ≡ record {
       slot = r .slot;
       word = r .word;

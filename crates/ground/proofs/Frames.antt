@@ -193,6 +193,23 @@ module _ {S A B : Type 0} {step : S → A → B → S × B} {s₀ : S} {xs : Lis
   pub scan-end : {i : ℕ} {s : S} {ys : List B} → Scan step s₀ xs ys₀ i s ys → min (length xs) (length ys₀) ≤ i → _≡_ {A = S × List B} (s, ys) (scan step s₀ xs ys₀)
   scan-end f l = ap (λ (r : Ran (S × List B)). r .value) (sym (frames-end f l) ∙ ap (λ (m : Draw (S × List B)). run m 0) (frames-still step s₀ xs ys₀))
 
+-- what such a loop puts at the frame i, told by its state there
+module _ {S A B : Type 0} (step : S → A → B → S × B) where
+  scan-at : (a : A) (b : B) (i : ℕ) (s : S) (xs : List A) (ys : List B) → i < length xs → i < length ys
+      → getD (scan step s xs ys .1) i b ≡ step (scan step s (take i xs) ys .0) (getD xs i a) (getD ys i b) .1
+  unfolding scan
+  scan-at a b i s [] ys l k = absurd (not-suc-le-zero l)
+  scan-at a b i s (x ∷ xs) [] l k = absurd (not-suc-le-zero k)
+  scan-at a b zero s (x ∷ xs) (y ∷ ys) l k = refl
+  scan-at a b (suc i) s (x ∷ xs) (y ∷ ys) l k = scan-at a b i (step s x y .0) xs ys (le-of-suc-le-suc l) (le-of-suc-le-suc k)
+
+  pub scan-puts : (a : A) (b : B) {i : ℕ} {s₀ s : S} {xs : List A} {ys₀ ys : List B} → Scan step s₀ xs ys₀ i s ys → i < min (length xs) (length ys₀)
+      → getD (scan step s₀ xs ys₀ .1) i b ≡ step s (getD xs i a) (getD ys₀ i b) .1
+  scan-puts a b {i} {s₀} {s} {xs} {ys₀} {ys} f l =
+      let e : scan step s₀ (take i xs) ys₀ ≡ (s, ys) =
+      ap (λ (r : Ran (S × List B)). r .value) (sym (ap (λ (m : Draw (S × List B)). run m 0) (frames-still step s₀ (take i xs) ys₀)) ∙ f .so-far) in
+      scan-at a b i s₀ xs ys₀ (omega arith) (omega arith) ∙ ap (λ (q : S × List B). step (q .0) (getD xs i a) (getD ys₀ i b) .1) e
+
 -- ---- a loop that puts nothing out: the same laws, where what is read is put back
 
 module _ {S A : Type 0} (step : S → A → S) where

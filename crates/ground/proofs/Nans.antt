@@ -2,7 +2,7 @@
 use mathlib.Core.Path.{_≡_, refl, sym, _∙_}
 use mathlib.Core.Bool.{true, false, not, false≢true}
 use lib.Dec.{T}
-use lib.Ieee.{Float, nan, inf, fin, isNan, ne}
+use lib.Ieee.{Float, nan, inf, fin, isNan, eq, ne}
 use lib.Ieee.Compare.{nan-differs}
 
 -- what is a NaN is the NaN
@@ -18,3 +18,14 @@ unfolding isNan
 not-nan nan e = absurd (false≢true (sym e ∙ nan-differs))
 not-nan (inf s) e = tt
 not-nan (fin s m x) e = tt
+
+-- what are equal are no NaNs
+pub equal-no-nan : (x y : Float) → eq x y ≡ true → T (not (isNan x)) × T (not (isNan y))
+unfolding isNan eq
+equal-no-nan nan y e = absurd (false≢true e)
+equal-no-nan (inf s) nan e = absurd (false≢true e)
+equal-no-nan (inf s) (inf t) e = (tt, tt)
+equal-no-nan (inf s) (fin t n d) e = (tt, tt)
+equal-no-nan (fin s m d) nan e = absurd (false≢true e)
+equal-no-nan (fin s m d) (inf t) e = (tt, tt)
+equal-no-nan (fin s m d) (fin t n f) e = (tt, tt)

@@ -2,9 +2,9 @@
 use mathlib.Core.Path.{_≡_, refl, sym, ap, _∙_}
 use mathlib.Core.Bool.{Bool, true, false, not, _&&_, _||_, cond, true≢false, false≢true}
 use Prim.Native.Nat.{ℕ, zero, suc, _+_, _-_, _*_, _/_, _%_, _^_, _≤_, _<_, min}
-use native.Mathlib.Nat.{le-of-lt, le-of-eq, le-trans, lt-of-lt-of-le, lt-of-le-of-lt, zero-lt-suc, pow-suc, mod-lt, div-le-self, one-mul, mul-comm, mul-right-comm, mul-pos, mul-le-mul-right, mul-lt-mul-of-pos-right, lt-of-mul-lt-mul-right, div-one, div-lt-iff-lt-mul, le-div-iff-mul-le, div-div-eq-div-mul, mul-div-mul-right}
+use native.Mathlib.Nat.{le-of-mul-le-mul-right, le-of-lt, le-of-eq, le-trans, lt-of-lt-of-le, lt-of-le-of-lt, zero-lt-suc, pow-suc, mod-lt, div-le-self, one-mul, mul-comm, mul-right-comm, mul-pos, mul-le-mul-right, mul-lt-mul-of-pos-right, lt-of-mul-lt-mul-right, div-one, div-lt-iff-lt-mul, le-div-iff-mul-le, div-div-eq-div-mul, mul-div-mul-right}
 use native.Mathlib.Omega.{arith}
-use lib.Dec.{T, eqb, ltb, leb, ltb→lt, lt→ltb}
+use lib.Dec.{T, eqb, ltb, leb, leb→le, ltb→lt, lt→ltb}
 use lib.IntN.{ℤ, pos, negsuc}
 use lib.Pow.{pow-pos, pow-add, shr-shr}
 use borrow.Author.Tests.{eqb-true, eq-eqb, ltb-true, ltb-false, lt-ltb}
@@ -13,10 +13,10 @@ use lib.Ieee.Digits.{size-le, size-reaches}
 use lib.Ieee.Fits.{down-pos, and-l, and-r, ofInt-fits, kept-lt}
 use lib.Ieee.Nearest.{div-same}
 use lib.Ieee.Order.{le-of-values}
-use lib.Ieee.Positive.{above-of-le}
+use lib.Ieee.Positive.{above, above-of-le, positive-of-value}
 use denote.Floats.{passes, is-true}
 use lib.Ieee.Exact.{HasValue}
-use lib.Ieee.Back.{whole-unique}
+use lib.Ieee.Back.{round-whole, whole-unique}
 use Rattle.ground.specs.F32.{_⊖_, c0, c1, twoTo23, twoTo64}
 use Rattle.ground.specs.Floats.{wholePart, fractionOf, splitOf}
 use Rattle.ground.specs.declared.floats.Parts.{Parts}
@@ -305,3 +305,88 @@ zero-is = refl
 pub low-parts : (x : Float) → le c1 x ≡ false → _≡_ {A = Parts} (record { integral = 0; fractional = x ⊖ c0 }) (splitOf x)
 unfolding wholePart fractionOf
 low-parts x h = rw (h, low x h, zero-is)
+
+-- ---- between two neighbouring whole numbers
+
+-- x is a / c, from n on and below n + 1
+record Near (x : Float) (n a c : ℕ) : Type 0 where
+  some : 0 < c
+  value : HasValue x false a c
+  least : n * c ≤ a
+  most : a < (n + 1) * c
+
+level : (p q k u d : ℕ) → 0 < u → p * 1 ≡ k * u → p * d ≤ q * u → k * d ≤ q
+level p q k u d h e l =
+    let f : k * u ≡ p = omega (arith, e) in
+    le-of-mul-le-mul-right (le-trans (le-of-eq (mul-right-comm k d u ∙ ap (λ (z : ℕ). z * d) f)) l) h
+
+strictly : (p q k u d : ℕ) → 0 < u → p * 1 ≡ k * u → q * u < p * d → q < k * d
+strictly p q k u d h e l =
+    let f : p ≡ k * u = omega (arith, e) in
+    lt-of-mul-lt-mul-right u (lt-of-lt-of-le l (le-of-eq (ap (λ (z : ℕ). z * d) f ∙ mul-right-comm k u d)))
+
+close : (lo hi : Float) (n : ℕ) → HasValue lo false n 1 → HasValue hi false (n + 1) 1 → 0 < n → (m : ℕ) (e : ℤ) → le lo (fin false m e) ≡ true → lt (fin false m e) hi ≡ true
+    → Near (fin false m e) n (m * up e) (down e)
+unfolding le lt
+close nan hi n v w p m e h k = absurd v
+close (inf s) hi n v w p m e h k = absurd v
+close (fin s i d) nan n v w p m e h k = absurd w
+close (fin s i d) (inf t) n v w p m e h k = absurd w
+close (fin true i d) (fin t j f) n v w p m e h k = absurd (true≢false (v .0))
+close (fin false i d) (fin true j f) n v w p m e h k = absurd (true≢false (w .0))
+close (fin false i d) (fin false j f) n v w p m e h k =
+    record {
+      some = down-pos e;
+      value = (refl, refl);
+      least = level (i * up d) (m * up e) n (down d) (down e) (down-pos d) (v .1) (le-true (i * up d * down e) (m * up e * down d) h);
+      most = strictly (j * up f) (m * up e) (n + 1) (down f) (down e) (down-pos f) (w .1) (ltb-true (m * up e * down f) (j * up f * down e) k);
+    }
+
+no-inf : (hi : Float) (n : ℕ) → HasValue hi false n 1 → lt (inf false) hi ≡ true → ⊥
+unfolding lt
+no-inf nan n w k = w
+no-inf (inf s) n w k = w
+no-inf (fin s m e) n w k = false≢true k
+
+quotient : (n a c : ℕ) → 0 < c → n * c ≤ a → a < (n + 1) * c → a / c ≡ n
+quotient n a c p h k =
+    let l : n ≤ a / c = le-div-iff-mul-le p .1 h in
+    let m : a / c < n + 1 = div-lt-iff-lt-mul p .1 k in
+    omega arith
+
+near : (lo hi x : Float) (n : ℕ) → HasValue lo false n 1 → HasValue hi false (n + 1) 1 → 0 < n → n < 2 ^ 23 → T (above x) → le lo x ≡ true → lt x hi ≡ true
+    → (wholePart x ≡ n) × (lt x twoTo64 ≡ true)
+unfolding ofBits
+near lo hi nan n v w p q a h k = absurd a
+near lo hi (inf true) n v w p q a h k = absurd a
+near lo hi (inf false) n v w p q a h k = absurd (no-inf hi (n + 1) w k)
+near lo hi (fin true m e) n v w p q a h k = absurd a
+near lo hi (fin false m e) n v w p q a h k =
+    let b = close lo hi n v w p m e h k in
+    let l : m * up e < 2 ^ 64 * down e = lt-of-lt-of-le (b .most) (mul-le-mul-right (down e) (omega (arith, q))) in
+    (cut-whole m e l ∙ quotient n (m * up e) (down e) (down-pos e) (b .least) (b .most), lt-power 64 (fin false m e) (m * up e) (down e) (down-pos e) (refl, refl) l)
+
+whole-is-exact : (n : ℕ) → n ≤ 2 ^ 24 → HasValue (ofInt binary32 (pos n)) false n 1
+unfolding ofInt
+whole-is-exact n h = round-whole binary32 false n h
+
+-- a guess n that x is not below, and whose neighbour x is below, is the whole part
+pub near-parts : (x : Float) (n : ℕ) → 0 < n → n < 2 ^ 23 → le (ofInt binary32 (pos n)) x ≡ true → lt x (ofInt binary32 (pos (n + 1))) ≡ true
+    → _≡_ {A = Parts} (record { integral = n; fractional = x ⊖ ofInt binary32 (pos n) }) (splitOf x)
+unfolding fractionOf
+near-parts x n p q h k =
+    let lo = ofInt binary32 (pos n) in
+    let v = whole-is-exact n (omega (arith, q)) in
+    let w = whole-is-exact (n + 1) (omega (arith, q)) in
+    let a = above-of-le lo x (positive-of-value lo n 1 v p) (passes (le lo x) h) in
+    let b = near lo (ofInt binary32 (pos (n + 1))) x n v w p q a h k in
+    rw (not-past x (b .1), b .0)
+
+-- both tests of a pair
+pub both-true : (a b : Bool) → (a && b) ≡ true → (a ≡ true) × (b ≡ true)
+both-true true true h = (refl, refl)
+both-true true false h = absurd (false≢true h)
+both-true false b h = absurd (false≢true h)
+
+pub guessed : (n : ℕ) → (leb 1 n && ltb n 8388608) ≡ true → (0 < n) × (n < 2 ^ 23)
+guessed n h = let t = both-true (leb 1 n) (ltb n 8388608) h in (leb→le 1 n (passes (leb 1 n) (t .0)), ltb-true n 8388608 (t .1))

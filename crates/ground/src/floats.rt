@@ -67,6 +67,23 @@ pub fn split(x: f32) -> Parts
     }
 }
 
+// `split`, where the whole part was guessed: a right guess is told by two comparisons, and what follows need not wait for x.
+pub fn split_near(x: f32, guess: usize) -> Parts
+    ensures { λ r. ⌜ r ≡ splitOf x ⌝ }
+{
+    if (1 <= guess) & (guess < 8388608) {
+        let low = guess as f32;
+        let high = (guess + 1) as f32;
+        if (low <= x) & (x < high) {
+            return Parts {
+                integral: guess,
+                fractional: x - low,
+            };
+        }
+    }
+    split(x)
+}
+
 pub fn fraction(x: f32) -> f32
     ensures { λ r. ⌜ r ≡ fractionOf x ⌝ }
 {

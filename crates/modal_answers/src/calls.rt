@@ -1,6 +1,6 @@
 // A recorded call of a modal voice, made again: its row has the same inputs and what the port gives.
 ghost use Prim.Native.Nat.{_+_, _≤_};
-ghost use Rattle.modal_voice.specs.OneLoop.{Alike};
+ghost use Rattle.noise.specs.Excitation.{Alike};
 use answers::calls::fill;
 use answers::calls::frames;
 use answers::calls::inputs_of;

@@ -8,6 +8,7 @@ use lib.ListN.{length, getD}
 use lib.Ieee.{Float, nan}
 use Rattle.ground.specs.F32.{c0}
 use Rattle.noise.specs.Excitation.{added}
+pub use Rattle.noise.specs.Excitation.{Alike}
 use Rattle.modes.specs.declared.resonator.ResonatorSvf.{ResonatorSvf}
 use Rattle.modes.specs.declared.resonator.Batch.{Batch}
 use Rattle.modes.specs.declared.resonator.Mode.{Mode}
@@ -15,12 +16,6 @@ use Rattle.modes.specs.declared.resonator.Modes.{Modes}
 use Rattle.modal_voice.specs.declared.modal_voice.Ahead.{Ahead}
 use Rattle.modes.specs.Resonator.{lowStep, lowBlock}
 use Rattle.modes.specs.OnePass.{onePass}
-
--- the buffers have one length
-pub record Alike (temp temp2 out aux : List Float) : Type 0 where
-  pub temp2-is : length temp2 ≡ length temp
-  pub out-is : length out ≡ length temp
-  pub aux-is : length aux ≡ length temp
 
 -- what the loop leaves
 pub record Framed : Type 0 where

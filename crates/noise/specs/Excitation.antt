@@ -1,4 +1,5 @@
 -- What string_voice.rs and modal_voice.rs do alike before their resonators. Assumes nothing.
+use mathlib.Core.Path.{_≡_}
 use mathlib.Core.List.{List}
 use lib.ListN.{length, replicate}
 use lib.Ieee.{Float}
@@ -32,3 +33,9 @@ addStep s x y = (s, y ⊕ x)
 
 abbrev pub added : List Float → List Float → List Float
 added xs ys = scan addStep tt xs ys .1
+
+-- the four buffers of a render have one length
+pub record Alike (temp temp2 out aux : List Float) : Type 0 where
+  pub temp2-is : length temp2 ≡ length temp
+  pub out-is : length out ≡ length temp
+  pub aux-is : length aux ≡ length temp

@@ -2,6 +2,7 @@
 ghost use mathlib.Core.Path.{_≡_};
 ghost use Prim.Native.Nat.{_+_, _≤_};
 ghost use lib.ListN.{length};
+ghost use Rattle.noise.specs.Excitation.{Alike};
 ghost use Rattle.waveguide.specs.String.{Good};
 use answers::calls::fill;
 use answers::calls::frames;
@@ -112,7 +113,7 @@ fn render(
     out: &mut [f32],
     aux: &mut [f32],
 ) -> Made
-    requires { ⌜ Good (before .string, now lines) × (length (now out) ≤ 4096) ⌝ }
+    requires { ⌜ Good (before .string, now lines) × (length (now out) ≤ 4096) × Alike (now temp) (now «temp_2») (now out) (now aux) ⌝ }
 {
     fill(row, temp, temp_2, out, aux);
     let r = before.render(knobs_of(row), lines, temp, temp_2, out, aux, row[9]);
@@ -125,6 +126,9 @@ fn render(
 fn block(before: StringVoice, row: [u32; 64], lines: &mut [f32]) -> Made
     requires { ⌜ Good (before .string, now lines) ⌝ }
 {
+    if row[2] > 4096 {
+        return no_call(before);
+    }
     let mut temp = [0.0f32; 4096];
     let mut temp_2 = [0.0f32; 4096];
     let mut out = [0.0f32; 4096];
@@ -153,9 +157,6 @@ fn placed(before: StringVoice, row: [u32; 64], lines: &mut [f32]) -> Made
         return no_call(before);
     }
     if s.stretch >= 256 {
-        return no_call(before);
-    }
-    if row[2] > 4096 {
         return no_call(before);
     }
     block(before, row, lines)

@@ -12,8 +12,7 @@ use Rattle.utils.specs.Units.{semitonesToRatio}
 use Rattle.utils.specs.Filter.{svfBuffer, svfSetFQ}
 use Rattle.utils.specs.declared.filter.Svf.{Svf}
 use Rattle.utils.specs.declared.filter.FrequencyApproximation.the-variants.{Dirty}
-use Rattle.ground.proofs.Draw.{run-then, Always, always-bind, always-run, counted-then}
-use Rattle.ground.proofs.Frames.{Any, always-any}
+use Rattle.ground.proofs.Draw.{run-then, counted-then}
 use Rattle.waveguide.specs.declared.string.StringNonLinearity.{StringNonLinearity}
 use Rattle.waveguide.specs.declared.string.String.{String}
 use Rattle.noise.specs.declared.excitation.Knobs.{Knobs}
@@ -21,7 +20,7 @@ use Rattle.noise.specs.declared.excitation.Counts.{Counts}
 use Rattle.noise.specs.Excitation.{raised, added}
 use Rattle.string_voice.specs.declared.string_voice.StringVoice.{StringVoice}
 use Rattle.waveguide.specs.String.{nonLinearity, strung, Good}
-use Rattle.string_voice.specs.StringVoice.{exciterSemitones, cutoffFor, struck, excitation, excitationWords, excitationCounts, Excited, exciteOf, bothCounts, amount, soundOf, renderOf}
+use Rattle.string_voice.specs.StringVoice.{exciterSemitones, cutoffFor, struck, excitation, excitationWords, excitationCounts, exciteOf, bothCounts, amount, soundOf, renderOf}
 use Rattle.string_voice.proofs.Excitations.{excitation-draws}
 
 pub cut-off : (k : Knobs) (b ratio r : Float) → b ≡ raised (k .accent) (k .brightness) → ratio ≡ semitonesToRatio ((b ⊗ (c2 ⊖ b) ⊖ c0·5) ⊗ c72)
@@ -103,15 +102,5 @@ pub struck-string : (k : Knobs) (v : StringVoice) → struck k v .string ≡ v .
 unfolding struck
 struck-string k v = one-of (k .trigger || k .sustain) _ v (v .string) refl refl
 
-excite-string : (k : Knobs) (v : StringVoice) (temp temp2 aux : List Float) → Always (λ x. x .voice .string ≡ v .string) (exciteOf k v temp temp2 aux)
-unfolding exciteOf
-excite-string k v temp temp2 aux =
-    let m = excitation (k .sustain) k (struck k v .«remaining_noise_samples») temp in
-    always-bind Any (λ (x : Excited). x .voice .string ≡ v .string) (counted m) _ (always-any (counted m)) (λ t _. struck-string k v)
-
-pub string-kept : (k : Knobs) (v : StringVoice) (lines temp temp2 aux : List Float) (word : ℕ) {e : StringVoice} {temp' temp2' aux' : List Float} {n : Counts} {w : ℕ}
-    → run (exciteOf k v temp temp2 aux) word ≡ record { value = record { voice = e; temp = temp'; temp2 = temp2'; aux = aux'; counts = n }; word = w }
-    → Good (v .string, lines) → Good (e .string, lines)
-string-kept k v lines temp temp2 aux word {e} h g =
-    let s : e .string ≡ v .string = always-run (λ (x : Excited). x .voice .string ≡ v .string) (exciteOf k v temp temp2 aux) word (excite-string k v temp temp2 aux) h in
-    rw s g
+pub struck-good : (k : Knobs) (v s : StringVoice) (lines : List Float) → s ≡ struck k v → Good (v .string, lines) → Good (s .string, lines)
+struck-good k v s lines e g = rw (e, struck-string k v) g

@@ -2,6 +2,7 @@
 pub mod Ranges
 pub mod Excitations
 pub mod Halves
+pub mod OneLoop
 pub mod Drawn
 pub mod Amounts
 pub mod Ledger

@@ -1,18 +1,25 @@
 // Extended Karplus-Strong, with all the niceties from Rings.
 ghost use mathlib.Core.Path.{_≡_};
 ghost use mathlib.Core.Bool.{cond};
-ghost use Prim.Native.Nat.{_≤_, _-_, _^_, min};
-ghost use lib.ListN.{length};
+ghost use Prim.Native.Nat.{_+_, _≤_, _<_, _-_, _^_, min};
+ghost use lib.ListN.{length, getD};
+ghost use lib.Ieee.{nan};
 ghost use Rattle.ground.specs.F32.{c0·5, c1};
 ghost use Rattle.ground.specs.Draw.{run, Ran};
 ghost use Rattle.waveguide.specs.String.{Good};
-ghost use Rattle.noise.specs.Excitation.{added};
-ghost use Rattle.string_voice.specs.StringVoice.{voiceNew, voiceInit, voiceReset, cutoffFor, struck, burst, excitation, excitationWords, excitationCounts, bothCounts, Excited, exciteOf, amount, Sounded, soundOf, After, renderOf};
+ghost use Rattle.utils.specs.Filter.{svfOf};
+ghost use Rattle.noise.specs.Excitation.{added, Alike};
+ghost use Rattle.string_voice.specs.StringVoice.{voiceNew, voiceInit, voiceReset, cutoffFor, struck, burst, excitation, excitationWords, excitationCounts, Excited, exciteOf, amount, Sounded, soundOf, After, renderOf};
+ghost use Rattle.string_voice.specs.OneLoop.{Framed, framesOf, aheadOf};
 use noise::excitation::Counts;
 use noise::excitation::Knobs;
 use utils::filter::FrequencyApproximation;
 use utils::filter::Svf;
+use utils::filter::SvfOut;
+use waveguide::string::Live;
+use waveguide::string::Params;
 use waveguide::string::String;
+use waveguide::string::StringNonLinearity;
 
 // A voice. Its lines are lent: the string line of 1,024 numbers and the stretch line of 256 behind it.
 pub struct StringVoice {
@@ -26,6 +33,14 @@ pub struct Rendered {
     pub voice: StringVoice,
     pub word: u32,
     pub counts: Counts,
+}
+
+// The excitation filter and the string after a block, the generator's word, and how many words the string drew.
+pub struct Strung {
+    pub filter: Svf,
+    pub string: String,
+    pub word: u32,
+    pub drawn: usize,
 }
 
 // The cutoff of the excitation filter.
@@ -102,6 +117,79 @@ fn counts_of(sustain: bool, left: usize, n: usize) -> Counts
     }
 }
 
+// The excitation filter past the first frame.
+fn filter_first(s: Svf, temp: &[f32]) -> SvfOut
+    ensures { λ r. ⌜ r ≡ aheadOf s (now (temp .entry)) 0 ⌝ }
+{
+    if 0 < temp.len() {
+        return s.process(temp[0]);
+    }
+    SvfOut { svf: s, out: 0.0 }
+}
+
+// The excitation filter past the frame i + 1, where o is the filter past the frame i and s what it was there.
+fn filter_on(s: Svf, o: SvfOut, temp: &[f32], i: usize) -> SvfOut
+    requires { ⌜ (o ≡ svfOf s (getD (now temp) i nan)) × (i < length (now temp)) ⌝ }
+    ensures { λ r. ⌜ r ≡ aheadOf (o .svf) (now (temp .entry)) (i + 1) ⌝ }
+{
+    if i + 1 < temp.len() {
+        return s.process_after(o, temp[i], temp[i + 1]);
+    }
+    let svf = o.svf;
+    SvfOut { svf, out: 0.0 }
+}
+
+// Both halves' loops as one. The excitation filter is a frame ahead of the string, so that neither waits for the other.
+fn sound_frames(
+    lines: &mut [f32],
+    v: Live,
+    shape: StringNonLinearity,
+    p: Params,
+    f: Svf,
+    temp: &[f32],
+    temp_2: &mut [f32],
+    out: &mut [f32],
+    aux: &mut [f32],
+) -> Strung
+    requires { ⌜ Good (v .string, now lines) × (length (now out) ≤ 2 ^ 24) × Alike (now temp) (now «temp_2») (now out) (now aux) ⌝ }
+    ensures { λ r. ⌜ run (framesOf shape p f (v .string, now (lines .entry)) (now (temp .entry)) (now («temp_2» .entry)) (now (out .entry)) (now (aux .entry))) (v .word) ≡ record {
+      value = record {
+        filter = r .filter;
+        string = r .string;
+        lines = now (lines .exit);
+        temp2 = now («temp_2» .exit);
+        out = now (out .exit);
+        aux = now (aux .exit);
+        drawn = r .drawn;
+      };
+      word = r .word;
+    } ⌝ }
+{
+    let n = temp.len();
+    let mut u = waveguide::string::begin(v, p);
+    let mut filter = f;
+    let mut ahead = filter_first(f, temp);
+    let mut i = 0;
+    while i < n {
+        let x = ahead.out;
+        let next = filter_on(filter, ahead, temp, i);
+        filter = ahead.svf;
+        ahead = next;
+        temp_2[i] = x;
+        aux[i] += x;
+        u = waveguide::string::advance(lines, u, shape, p, x);
+        out[i] = waveguide::string::mix(out[i], u.string);
+        i += 1;
+    }
+    let string = u.string;
+    Strung {
+        filter,
+        string,
+        word: u.word,
+        drawn: u.drawn,
+    }
+}
+
 fn amount_for(structure: f32) -> f32
     ensures { λ r. ⌜ r ≡ amount structure ⌝ }
 {
@@ -112,17 +200,6 @@ fn amount_for(structure: f32) -> f32
         return (structure - 0.26) * 1.35135;
     }
     0.0
-}
-
-// The words of both halves.
-fn joined(e: Counts, s: Counts) -> Counts
-    ensures { λ r. ⌜ r ≡ bothCounts e s ⌝ }
-{
-    Counts {
-        burst: e.burst,
-        dust: e.dust,
-        dispersion: s.dispersion,
-    }
 }
 
 impl StringVoice {
@@ -271,6 +348,7 @@ impl StringVoice {
         }
     }
 
+    // Both halves, their loops as one.
     pub fn render(
         self,
         k: Knobs,
@@ -281,7 +359,7 @@ impl StringVoice {
         aux: &mut [f32],
         word: u32,
     ) -> Rendered
-        requires { ⌜ Good (self .string, now lines) × (length (now out) ≤ 2 ^ 24) ⌝ }
+        requires { ⌜ Good (self .string, now lines) × (length (now out) ≤ 2 ^ 24) × Alike (now temp) (now «temp_2») (now out) (now aux) ⌝ }
         ensures { λ r. ⌜ run (renderOf k self (now (lines .entry)) (now (temp .entry)) (now («temp_2» .entry)) (now (out .entry)) (now (aux .entry))) word ≡ record {
           value = record {
             voice = r .voice;
@@ -295,14 +373,39 @@ impl StringVoice {
           word = r .word;
         } ⌝ }
     {
-        let e = self.excite(k, temp, temp_2, aux, word);
-        let excited = e.voice;
-        let s = excited.sound(k, lines, temp_2, out, e.word);
-        let voice = s.voice;
+        let struck = self.strike(k);
+        let left = struck.remaining_noise_samples;
+        let left_after = noise_left(k.sustain, left, temp.len());
+        let e = counts_of(k.sustain, left, temp.len());
+        let excited = fill_excitation(k, left, temp, word);
+        let amount = amount_for(k.structure);
+        let shape = waveguide::string::non_linearity(amount);
+        let bright = noise::excitation::raise(k.accent, k.brightness);
+        let damped = noise::excitation::raise(k.accent, k.damping);
+        let b = waveguide::string::prepare(struck.string, shape, k.f0, bright, damped, out.len());
+        let tuned = b.string;
+        let live = Live {
+            string: tuned,
+            word: excited,
+        };
+        let filter = struck.excitation_filter;
+        let s = sound_frames(lines, live, shape, b.params, filter, temp, temp_2, out, aux);
+        let excitation_filter = s.filter;
+        let string = s.string;
+        let voice = StringVoice {
+            excitation_filter,
+            string,
+            remaining_noise_samples: left_after,
+        };
+        let counts = Counts {
+            burst: e.burst,
+            dust: e.dust,
+            dispersion: s.drawn,
+        };
         Rendered {
             voice,
             word: s.word,
-            counts: joined(e.counts, s.counts),
+            counts,
         }
     }
 }

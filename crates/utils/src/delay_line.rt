@@ -98,12 +98,13 @@ pub fn read_with_delay_frac(line: &[f32], write_ptr: usize, delay: f32) -> f32
     linear(read(line, t), read(line, t + 1), delayed.fractional)
 }
 
-pub fn read_hermite(line: &[f32], write_ptr: usize, delay: f32) -> f32
+// `read_hermite`, where the delay's whole part was guessed.
+pub fn read_hermite_near(line: &[f32], write_ptr: usize, delay: f32, guess: usize) -> f32
     requires { ⌜ «write_ptr» < length (now line) ⌝ }
     ensures { λ r. ⌜ r ≡ readHermite (now (line .entry)) «write_ptr» delay ⌝ }
 {
     let n = line.len();
-    let delayed = ground::floats::split(delay);
+    let delayed = ground::floats::split_near(delay, guess);
     let t = write_ptr + rounded(delayed.integral, n) + n;
     cubic(
         read(line, t - 1),
@@ -112,4 +113,11 @@ pub fn read_hermite(line: &[f32], write_ptr: usize, delay: f32) -> f32
         read(line, t + 2),
         delayed.fractional,
     )
+}
+
+pub fn read_hermite(line: &[f32], write_ptr: usize, delay: f32) -> f32
+    requires { ⌜ «write_ptr» < length (now line) ⌝ }
+    ensures { λ r. ⌜ r ≡ readHermite (now (line .entry)) «write_ptr» delay ⌝ }
+{
+    read_hermite_near(line, write_ptr, delay, 0)
 }

@@ -154,6 +154,22 @@ impl Svf {
         SvfOut { svf, out: lp }
     }
 
+    // `process` of y, where o is what the filter before made of x: if neither its memory nor the sample has changed, it is o again.
+    pub fn process_after(self, o: SvfOut, x: f32, y: f32) -> SvfOut
+        requires { ⌜ o ≡ svfOf self x ⌝ }
+        ensures { λ r. ⌜ r ≡ svfOf (o .svf) y ⌝ }
+    {
+        let after = o.svf;
+        if ground::bits::same(self.state_1, after.state_1) {
+            if ground::bits::same(self.state_2, after.state_2) {
+                if ground::bits::same(x, y) {
+                    return o;
+                }
+            }
+        }
+        after.process(y)
+    }
+
     // `process_buffer` at the low pass: the frames that both buffers have.
     pub fn process_buffer(self, in_: &[f32], out: &mut [f32]) -> Svf
         ensures { λ r. ⌜ (r, now (out .exit)) ≡ svfBuffer self (now (in_ .entry)) (now (out .entry)) ⌝ }

@@ -1,5 +1,5 @@
 -- What the calls of `process` ensure, put together, and what a block of the string keeps and draws. Assumes nothing.
-use mathlib.Core.Path.{_≡_, refl, ap, subst}
+use mathlib.Core.Path.{_≡_, refl, sym, ap, _∙_}
 use mathlib.Core.List.{List}
 use Prim.Native.Nat.{ℕ, min}
 use lib.ListN.{length}
@@ -9,22 +9,27 @@ use Rattle.ground.specs.Frames.{frames}
 use Rattle.ground.proofs.Draw.{Draws}
 use Rattle.ground.proofs.Frames.{after, drawn}
 use Rattle.waveguide.specs.declared.string.StringNonLinearity.{StringNonLinearity}
-use Rattle.waveguide.specs.declared.string.Params.{Params}
+use Rattle.waveguide.specs.declared.string.Prepared.{Prepared}
 use Rattle.waveguide.specs.declared.string.Damping.{Damping}
 use Rattle.waveguide.specs.declared.string.String.{String}
-use Rattle.waveguide.specs.String.{amountOf, ratioOf, snap, dampingOf, paramsOf, tuned, wordsAt, frameOf, strung, Good}
+use Rattle.waveguide.specs.String.{amountOf, ratioOf, snap, dampingOf, paramsOf, tuned, preparedOf, wordsAt, frameOf, strung, Good}
 use Rattle.waveguide.proofs.Steps.{wrap, At, frames-draw}
 
-pub tuned-good : (s : String) (f0 : Float) (d : Damping) (lines : List Float) (t : String) → t ≡ tuned s f0 d → Good (s, lines) → Good (t, lines)
+tuned-good : (s : String) (f0 : Float) (d : Damping) (lines : List Float) (t : String) → t ≡ tuned s f0 d → Good (s, lines) → Good (t, lines)
 unfolding tuned
 tuned-good s f0 d lines t e g = rw e (record { size = g .size; string = g .string; stretch = g .stretch })
 
+pub prepared-good : (shape : StringNonLinearity) (f0 brightness damping : Float) (n : ℕ) (s : String) (lines : List Float) (b : Prepared) → b ≡ preparedOf s shape f0 brightness damping n
+    → Good (s, lines) → Good (b .string, lines)
+unfolding preparedOf
+prepared-good shape f0 brightness damping n s lines b e g =
+    tuned-good s f0 (dampingOf f0 brightness damping) lines (b .string) (ap (λ (b : Prepared). b .string) e) g
+
 module _ (shape : StringNonLinearity) (f0 brightness damping : Float) (s : String) (lines xs ys : List Float) (word : ℕ) where
-  pub processed : {d : Damping} {x : Float} {p : Params} {t : String} {r : Ran (((String × List Float) × List Float) × ℕ)}
-      → d ≡ dampingOf f0 brightness damping → x ≡ amountOf shape → p ≡ paramsOf s f0 x d (length ys) → t ≡ tuned s f0 d
-      → run (counted (frames (frameOf shape p) (t, lines) xs ys)) word ≡ r → run (counted (strung shape f0 brightness damping (s, lines) xs ys)) word ≡ r
-  unfolding strung
-  processed ed ex ep et e = rw (← ed, ← ex, ← ep, ← et) e
+  pub processed : {b : Prepared} {r : Ran (((String × List Float) × List Float) × ℕ)} → b ≡ preparedOf s shape f0 brightness damping (length ys)
+      → run (counted (frames (frameOf shape (b .params)) (b .string, lines) xs ys)) word ≡ r → run (counted (strung shape f0 brightness damping (s, lines) xs ys)) word ≡ r
+  unfolding strung preparedOf
+  processed eb e = ap (λ (b : Prepared). run (counted (frames (frameOf shape (b .params)) (b .string, lines) xs ys)) word) (sym eb) ∙ e
 
 -- a block of n frames: the words that its steps draw, the phase behind it, and the output's length
 abbrev pub ratioFor : Float → Float

@@ -9,7 +9,7 @@ use native.Mathlib.Omega.{arith}
 use lib.ListN.{length, length-set, length-take, take, drop}
 use lib.Ieee.{Float, lt, neg}
 use Rattle.ground.specs.F32.{_⊕_, _⊖_, _⊗_, c1, c20}
-use Rattle.ground.specs.Draw.{Draw, ret, run, counted}
+use Rattle.ground.specs.Draw.{Draw, ret, run, Ran, counted}
 use Rattle.ground.specs.Frames.{frames}
 use Rattle.ground.specs.Part.{part, put}
 use Rattle.ground.specs.Floats.{wholePart, clampF}
@@ -25,7 +25,9 @@ use Rattle.waveguide.specs.declared.string.StringNonLinearity.the-varian
 use Rattle.waveguide.specs.declared.string.Params.{Params}
 use Rattle.waveguide.specs.declared.string.String.{String}
 use Rattle.waveguide.specs.declared.string.Heard.{Heard}
-use Rattle.waveguide.specs.String.{bent, plain, allpassed, mainOf, stretched, heard, bridged, stepOf, atPhase, wordsOf, wordsAt, moved, frameOf, Good}
+use Rattle.waveguide.specs.declared.string.Live.{Live}
+use Rattle.waveguide.specs.declared.string.Underway.{Underway}
+use Rattle.waveguide.specs.String.{bent, plain, allpassed, mainOf, stretched, heard, bridged, stepOf, atPhase, wordsOf, wordsAt, moved, frameOf, guessOf, guessAfter, begun, Ahead, Good}
 
 module _ (shape : StringNonLinearity) (p : Params) (x : Float) (t : String) (word : ℕ) (lines : List Float) where
   pub stepped : {delay noise : Float} {word' : ℕ} {h : Heard} {lines' : List Float} {held : Float} {dc : DcBlocker} {o : SvfOut} {next : ℕ} {line' : List Float} {bridge : Float}
@@ -59,6 +61,30 @@ module _ (shape : StringNonLinearity) (p : Params) (x : Float) (t : String) (wor
   stepped eb eh ex ed eo el ec =
       run-then (bent shape p (t .delay ⊕ p .increment) (t .«dispersion_noise») (t .«curved_bridge»)) _ word eb
       ∙ rw (ap (λ q. q .0) el, ap (λ q. q .1) el, ec, eo, ed, ex, ap (λ q. q .0) eh, ap (λ q. q .1) eh)
+
+-- the guess that a step leaves
+pub guess-on : (shape : StringNonLinearity) (p : Params) (v : Underway) {delay noise : Float} {word : ℕ} {guess : ℕ}
+    → run (bent shape p (v .string .delay ⊕ p .increment) (v .string .«dispersion_noise») (v .string .«curved_bridge»)) (v .word) ≡ record { value = (delay, noise); word = word }
+    → guess ≡ guessOf shape delay → guess ≡ guessAfter shape p v
+guess-on shape p v e g = g ∙ ap (λ (r : Ran (Float × Float)). guessOf shape (r .value .0)) (sym e)
+
+-- ---- how a loop begins
+module _ (p : Params) (v : Live) (u : Underway) (e : u ≡ begun p v) where
+  pub begun-ahead : Ahead p u
+  unfolding begun
+  begun-ahead = rw e
+
+  pub begun-drawn : u .drawn ≡ 0
+  unfolding begun
+  begun-drawn = rw e
+
+  pub begun-good : (lines : List Float) → Good (v .string, lines) → Good (u .string, lines)
+  unfolding begun
+  begun-good lines g = rw e g
+
+  pub begun-run : {A : Type 0} (f : String → Draw A) {r : Ran A} → run (f (u .string)) (u .word) ≡ r → run (f (v .string)) (v .word) ≡ r
+  unfolding begun
+  begun-run f h = ap (λ (u : Underway). run (f (u .string)) (u .word)) (sym e) ∙ h
 
 -- ---- what is kept
 

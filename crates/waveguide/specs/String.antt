@@ -8,7 +8,7 @@ use lib.Ieee.{Float, binary32, lt, le, neg}
 use Rattle.resources.specs.Table.{entry}
 use Rattle.resources.specs.Svf.{svfShift}
 use Rattle.ground.specs.F32.{_⊕_, _⊖_, _⊗_, _⊘_, c0, c0·025, c0·06, c0·1, c0·15, c0·225, c0·308, c0·408, c0·499, c0·4999, c0·5, c0·618, c0·75, c0·94, c0·95, c0·9999, c0·01, c1, c1·5, c2, c2·1, c4, c12, c20, c24, c60, c84, c100, c128, c160, c255, c1020, c48000}
-use Rattle.ground.specs.Draw.{Draw, ret, ask, next, _>>=_}
+use Rattle.ground.specs.Draw.{Draw, ret, ask, next, value, _>>=_}
 use Rattle.ground.specs.Frames.{frames}
 use Rattle.ground.specs.Part.{part, within}
 use Rattle.ground.specs.Floats.{wholePart, fractionOf, minF, clampF, absF}
@@ -25,6 +25,8 @@ use Rattle.waveguide.specs.declared.string.String.{String}
 use Rattle.waveguide.specs.declared.string.Damping.{Damping}
 use Rattle.waveguide.specs.declared.string.Params.{Params}
 use Rattle.waveguide.specs.declared.string.Heard.{Heard}
+use Rattle.waveguide.specs.declared.string.Prepared.{Prepared}
+use Rattle.waveguide.specs.declared.string.Live.{Live}
 use Rattle.waveguide.specs.declared.string.Underway.{Underway}
 
 -- ---- String::new, init and reset: the state; the lines are 1,280 zeros after each
@@ -171,6 +173,12 @@ tuned s f0 d =
       «sample_rate_hz» = s .«sample_rate_hz»;
     }
 
+-- both
+unfoldable pub preparedOf : String → StringNonLinearity → Float → Float → Float → ℕ → Prepared
+preparedOf s shape f0 brightness damping n =
+    let d = dampingOf f0 brightness damping in
+    record { string = tuned s f0 d; params = paramsOf s f0 (amountOf shape) d n }
+
 -- ---- a string step
 
 -- the delay and the dispersion noise: the dispersion draws a word, the bridge none
@@ -185,6 +193,30 @@ noiseAfter p noise w = onePole noise (floatOf (next w) ⊖ c0·5) (p .«noise_fi
 
 abbrev pub Ahead : Params → Underway → Type 0
 Ahead p v = v .«next_noise» ≡ noiseAfter p (v .string .«dispersion_noise») (v .word)
+
+-- a guess at the next delay's whole part: the bridge's is this step's, the dispersion makes none. It moves no number, only the time that a step takes.
+unfoldable pub guessOf : StringNonLinearity → Float → ℕ
+guessOf (CurvedBridge a) delay = wholePart delay
+guessOf (Dispersion a) delay = 0
+
+abbrev pub guessAfter : StringNonLinearity → Params → Underway → ℕ
+guessAfter shape p v =
+    let t = v .string in
+    guessOf shape (value (bent shape p (t .delay ⊕ p .increment) (t .«dispersion_noise») (t .«curved_bridge»)) (v .word) .0)
+
+abbrev pub guessAt : StringNonLinearity → Params → Underway → ℕ
+guessAt shape p v = cond (lt c1 (v .string .«src_phase» ⊕ p .«src_ratio»)) (guessAfter shape p v) (v .guess)
+
+-- a string as its loop begins
+unfoldable pub begun : Params → Live → Underway
+begun p v =
+    record {
+      string = v .string;
+      word = v .word;
+      «next_noise» = noiseAfter p (v .string .«dispersion_noise») (v .word);
+      guess = wholePart (v .string .delay);
+      drawn = 0;
+    }
 
 -- the string line read by the cubic
 unfoldable pub plain : String → Float → List Float → Heard × List Float

@@ -4,7 +4,7 @@ ghost use Prim.Native.Nat.{_+_, _≤_, _<_, _^_};
 ghost use lib.ListN.{length};
 ghost use Rattle.ground.specs.Draw.{run, Ran, counted};
 ghost use Rattle.ground.specs.Frames.{frames};
-ghost use Rattle.waveguide.specs.String.{stringNew, initOf, resetOf, nonLinearity, amountOf, wordsOf, wordsAt, delayOf, snap, dampingOf, compensationOf, noiseAmount, noiseAfter, Ahead, paramsOf, tuned, bent, plain, allpassed, mainOf, stretched, heard, bridged, stepOf, atPhase, moved, mixed, frameOf, strung, Good};
+ghost use Rattle.waveguide.specs.String.{stringNew, initOf, resetOf, nonLinearity, amountOf, wordsOf, wordsAt, delayOf, snap, dampingOf, compensationOf, noiseAmount, noiseAfter, Ahead, guessOf, guessAfter, guessAt, begun, paramsOf, tuned, preparedOf, bent, plain, allpassed, mainOf, stretched, heard, bridged, stepOf, atPhase, moved, mixed, frameOf, strung, Good};
 use utils::filter::DcBlocker;
 use utils::filter::FrequencyApproximation;
 use utils::filter::Svf;
@@ -49,6 +49,12 @@ pub struct Params {
     pub ap_gain: f32,
 }
 
+// A string tuned for a block, and what the block's knobs come to.
+pub struct Prepared {
+    pub string: String,
+    pub params: Params,
+}
+
 // A string and the generator's word.
 pub struct Live {
     pub string: String,
@@ -62,20 +68,22 @@ pub struct Played {
     pub drawn: usize,
 }
 
-// A string within its loop, with the dispersion noise of its next step and the words drawn so far.
+// A string within its loop, with the dispersion noise of its next step, a guess at its next delay's whole part, and the words drawn so far.
 pub struct Underway {
     pub string: String,
     pub word: u32,
     pub next_noise: f32,
+    pub guess: usize,
     pub drawn: usize,
 }
 
-// A delay that is bent, with the dispersion noise and the word after it, and the noise of the next step.
+// A delay that is bent, with the dispersion noise and the word after it, and for the next step its noise and the guess.
 pub struct Bent {
     pub delay: f32,
     pub dispersion_noise: f32,
     pub word: u32,
     pub next_noise: f32,
+    pub guess: usize,
 }
 
 // What is read off the lines, and the stretch line's next place.
@@ -213,15 +221,19 @@ fn bend(
 ) -> Bent
     requires { ⌜ «next_noise» ≡ noiseAfter p noise word ⌝ }
     ensures { λ r. ⌜ (run (bent shape p delay noise bridge) word ≡ record { value = (r .delay, r .«dispersion_noise»); word = r .word })
-        × (r .«next_noise» ≡ noiseAfter p (r .«dispersion_noise») (r .word)) ⌝ }
+        × (r .«next_noise» ≡ noiseAfter p (r .«dispersion_noise») (r .word)) × (r .guess ≡ guessOf shape (r .delay)) ⌝ }
 {
     match shape {
-        StringNonLinearity::CurvedBridge(_) => Bent {
-            delay: delay * (1.0 - bridge * p.bridge_curving),
-            dispersion_noise: noise,
-            word,
-            next_noise,
-        },
+        StringNonLinearity::CurvedBridge(_) => {
+            let curved = delay * (1.0 - bridge * p.bridge_curving);
+            Bent {
+                delay: curved,
+                dispersion_noise: noise,
+                word,
+                next_noise,
+                guess: ground::floats::whole_part(curved),
+            }
+        }
         StringNonLinearity::Dispersion(_) => {
             let drawn = ground::random::get_word(word);
             Bent {
@@ -229,19 +241,20 @@ fn bend(
                 dispersion_noise: next_noise,
                 word: drawn,
                 next_noise: noise_after(p, next_noise, drawn),
+                guess: 0,
             }
         }
     }
 }
 
 // The string line read by the cubic.
-fn read_plain(lines: &[f32], s: String, delay: f32) -> Heard
+fn read_plain(lines: &[f32], s: String, delay: f32, guess: usize) -> Heard
     requires { ⌜ Good (s, now lines) ⌝ }
     ensures { λ r. ⌜ (r, now (lines .entry)) ≡ plain s delay (now (lines .entry)) ⌝ }
 {
     let place = s.string;
     Heard {
-        s: utils::delay_line::read_hermite(&lines[0..1024], place, delay),
+        s: utils::delay_line::read_hermite_near(&lines[0..1024], place, delay, guess),
         stretch: s.stretch,
     }
 }
@@ -282,7 +295,14 @@ fn stretches(shape: StringNonLinearity, p: Params, delay: f32) -> bool
 }
 
 // What is read off the lines at a delay.
-fn hear(lines: &mut [f32], shape: StringNonLinearity, p: Params, s: String, delay: f32) -> Heard
+fn hear(
+    lines: &mut [f32],
+    shape: StringNonLinearity,
+    p: Params,
+    s: String,
+    delay: f32,
+    guess: usize,
+) -> Heard
     requires { ⌜ Good (s, now lines) ⌝ }
     ensures { λ r. ⌜ (r, now (lines .exit)) ≡ heard shape p s delay (now (lines .entry)) ⌝ }
 {
@@ -295,7 +315,7 @@ fn hear(lines: &mut [f32], shape: StringNonLinearity, p: Params, s: String, dela
             p.ap_gain,
         );
     }
-    read_plain(lines, s, delay)
+    read_plain(lines, s, delay, guess)
 }
 
 // The bridge's curve after a sample.
@@ -324,7 +344,7 @@ fn step(
 ) -> Underway
     requires { ⌜ Good (v .string, now lines) × Ahead p v × (v .drawn < 2 ^ 63) ⌝ }
     ensures { λ r. ⌜ (run (stepOf shape p «in_sample» (v .string, now (lines .entry))) (v .word) ≡ record { value = (r .string, now (lines .exit)); word = r .word })
-        × Ahead p r × (r .drawn ≡ v .drawn + wordsOf shape) ⌝ }
+        × Ahead p r × (r .drawn ≡ v .drawn + wordsOf shape) × (r .guess ≡ guessAfter shape p v) ⌝ }
 {
     let t = v.string;
     let delay = t.delay + p.increment;
@@ -337,7 +357,7 @@ fn step(
         t.curved_bridge,
         v.word,
     );
-    let h = hear(lines, shape, p, t, b.delay);
+    let h = hear(lines, shape, p, t, b.delay, v.guess);
     let blocker = t.dc_blocker;
     let filter = t.iir_damping_filter;
     let dc_blocker = blocker.process_sample(h.s + ground::floats::clamp(in_sample, -20.0, 20.0));
@@ -363,11 +383,12 @@ fn step(
         string,
         word: b.word,
         next_noise: b.next_noise,
+        guess: b.guess,
         drawn,
     }
 }
 
-fn advance(
+pub fn advance(
     lines: &mut [f32],
     v: Underway,
     shape: StringNonLinearity,
@@ -376,7 +397,7 @@ fn advance(
 ) -> Underway
     requires { ⌜ Good (v .string, now lines) × Ahead p v × (v .drawn < 2 ^ 63) ⌝ }
     ensures { λ r. ⌜ (run (moved shape p «in_sample» (v .string, now (lines .entry))) (v .word) ≡ record { value = (r .string, now (lines .exit)); word = r .word })
-        × Ahead p r × (r .drawn ≡ v .drawn + wordsAt shape (p .«src_ratio») (v .string .«src_phase»)) ⌝ }
+        × Ahead p r × (r .drawn ≡ v .drawn + wordsAt shape (p .«src_ratio») (v .string .«src_phase»)) × (r .guess ≡ guessAt shape p v) ⌝ }
 {
     let s = v.string;
     let phase = s.src_phase + p.src_ratio;
@@ -387,6 +408,7 @@ fn advance(
                 string: s.at_phase(phase - 1.0),
                 word: v.word,
                 next_noise: v.next_noise,
+                guess: v.guess,
                 drawn: v.drawn,
             },
             shape,
@@ -398,13 +420,14 @@ fn advance(
             string: s.at_phase(phase),
             word: v.word,
             next_noise: v.next_noise,
+            guess: v.guess,
             drawn: v.drawn,
         }
     }
 }
 
 // A frame's output.
-fn mix(y: f32, s: String) -> f32
+pub fn mix(y: f32, s: String) -> f32
     ensures { λ r. ⌜ r ≡ mixed y s ⌝ }
 {
     y + utils::crossfade(s.out_sample_1, s.out_sample_0, s.src_phase)
@@ -518,6 +541,20 @@ impl String {
     }
 }
 
+// A string as its loop begins.
+pub fn begin(v: Live, p: Params) -> Underway
+    ensures { λ r. ⌜ r ≡ begun p v ⌝ }
+{
+    let string = v.string;
+    Underway {
+        string,
+        word: v.word,
+        next_noise: noise_after(p, string.dispersion_noise, v.word),
+        guess: ground::floats::whole_part(string.delay),
+        drawn: 0,
+    }
+}
+
 // The loop of `process`.
 fn run_frames(
     lines: &mut [f32],
@@ -532,13 +569,7 @@ fn run_frames(
         ≡ record { value = (((r .string, now (lines .exit)), now (out .exit)), r .drawn); word = r .word } ⌝ }
 {
     let n = utils::min_usize(in_.len(), out.len());
-    let s = v.string;
-    let mut u = Underway {
-        string: s,
-        word: v.word,
-        next_noise: noise_after(p, s.dispersion_noise, v.word),
-        drawn: 0,
-    };
+    let mut u = begin(v, p);
     let mut i = 0;
     while i < n {
         u = advance(lines, u, shape, p, in_[i]);
@@ -551,6 +582,24 @@ fn run_frames(
         word: u.word,
         drawn: u.drawn,
     }
+}
+
+// A string tuned for a block of n frames, and what the block's knobs come to.
+pub fn prepare(
+    s: String,
+    shape: StringNonLinearity,
+    f0: f32,
+    brightness: f32,
+    damping: f32,
+    n: usize,
+) -> Prepared
+    requires { ⌜ n ≤ 2 ^ 24 ⌝ }
+    ensures { λ r. ⌜ r ≡ preparedOf s shape f0 brightness damping n ⌝ }
+{
+    let d = damping_of(f0, brightness, damping);
+    let params = params_of(s, f0, amount_of(shape), d, n);
+    let string = s.tune(f0, d);
+    Prepared { string, params }
 }
 
 pub fn process(
@@ -567,19 +616,11 @@ pub fn process(
     ensures { λ r. ⌜ run (counted (strung shape f0 brightness damping (v .string, now (lines .entry)) (now (in_ .entry)) (now (out .entry)))) (v .word)
         ≡ record { value = (((r .string, now (lines .exit)), now (out .exit)), r .drawn); word = r .word } ⌝ }
 {
-    let d = damping_of(f0, brightness, damping);
-    let s = v.string;
-    let p = params_of(s, f0, amount_of(shape), d, out.len());
-    let string = s.tune(f0, d);
-    run_frames(
-        lines,
-        Live {
-            string,
-            word: v.word,
-        },
-        shape,
-        p,
-        in_,
-        out,
-    )
+    let b = prepare(v.string, shape, f0, brightness, damping, out.len());
+    let string = b.string;
+    let live = Live {
+        string,
+        word: v.word,
+    };
+    run_frames(lines, live, shape, b.params, in_, out)
 }

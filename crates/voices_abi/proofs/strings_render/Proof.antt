@@ -44,7 +44,7 @@ loop-holds c =
     (opened-sized (now (a .lines)) (now (a .temp)) (now (a .temp-2)) (now (a .out)) (now (a .aux)) (sym (c .before .before .before .before .before .before .fits2 .ensures) ∙ not-false _ (c .before .before .before .before .before .if1 .left)) (a .sample-rate-hz)))
 
 render-requires : tie.Need-render-requires Inv-loop μ-loop
-render-requires c κs = let d = c .before .before .before .before .before .before .loop .inv .kept in (d .good, omega (arith, d .out, d .small))
+render-requires c κs = let d = c .before .before .before .before .before .before .loop .inv .kept in (d .good, omega (arith, d .out, d .small), record { temp2-is = omega (arith, d .temp, d .temp2); out-is = omega (arith, d .temp, d .out); aux-is = omega (arith, d .temp, d .aux) })
 
 add-i : tie.Need-add-i Inv-loop μ-loop
 add-i c = omega (arith, c .before .before .before .before .before .before .before .before .before .before .before .before .before .before .before .before .before .before .loop .inv .within, c .before .before .before .before .before .before .before .before .before .before .before .before .before .before .before .before .before .loop-test, c .before .before .before .before .before .before .before .before .before .before .before .before .before .before .before .before .before .before .before .before .before .before .before .before .before .before .before .before .before .before .before .fits .blocks .fits)

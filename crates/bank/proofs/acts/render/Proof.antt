@@ -6,7 +6,7 @@ use Rattle.bank.proofs.acts.render.Statement.{statement}
 use Rattle.bank.proofs.acts.render.Tie as tie
 
 render-string-requires : tie.Need-render-string-requires
-render-string-requires c κs = (c .before .before .before .before .before .before .before .before .before .before .before .before .pre .0, c .before .before .before .before .before .if1 .taken)
+render-string-requires c κs = let p = c .before .before .before .before .before .before .before .before .before .before .before .before .pre in (p .0, c .before .before .before .before .before .if1 .taken, p .1)
 
 same-length : tie.Need-same-length
 same-length c = search needs

@@ -30,7 +30,7 @@ render-requires : tie.Need-render-requires
 render-requires c κs =
     let s = c .before .before .before .before .before .before .before .before .before .before .before in
     let a = s .args in
-    (good-part (a .x) (now (a .lines)) (a .slot) (now (a .out)) (s .pre .0), omega (arith, s .pre .0 .short))
+    (good-part (a .x) (now (a .lines)) (a .slot) (now (a .out)) (s .pre .0), omega (arith, s .pre .0 .short), s .pre .2)
 
 same-length : tie.Need-same-length
 same-length c = search needs

@@ -25,7 +25,7 @@ returns c = rw (c .before .before .before .before .before .if1 .taken) (rw (c .b
 
 returns-2 : tie.Need-returns-2
 unfolding moved
-returns-2 c = (rw (c .before .if1 .left, c .at-phase2 .ensures), rw (c .at-phase2 .ensures) (c .before .before .before .before .before .before .pre .1), rw (c .before .if1 .left) (omega arith))
+returns-2 c = (rw (c .before .if1 .left, c .at-phase2 .ensures), rw (c .at-phase2 .ensures) (c .before .before .before .before .before .before .pre .1), rw (c .before .if1 .left) (omega arith), rw (c .before .if1 .left))
 
 pub advance-spec : {M : Type 1} → statement M
 advance-spec =

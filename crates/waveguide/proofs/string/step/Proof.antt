@@ -3,7 +3,7 @@ use mathlib.Core.Path.{ap}
 use Prim.Native.Nat.{ℕ, _+_}
 use denote.Ref.{now}
 use native.Mathlib.Omega.{arith}
-use Rattle.waveguide.proofs.Steps.{stepped, words-few}
+use Rattle.waveguide.proofs.Steps.{stepped, guess-on, words-few}
 use borrow.Author.Needs.{needs}
 use Rattle.waveguide.proofs.string.step.Statement.{statement}
 use Rattle.waveguide.proofs.string.step.Tie as tie
@@ -54,6 +54,7 @@ returns c =
       stepped (a .shape) (a .p) (a .in-sample) (a .v .string) (a .v .word) (now (a .lines)) (e .0) (c .before .before .before .before .before .before .before .before .before .before .before .before .before .before .before .before .hear .ensures) (c .before .before .before .before .before .before .before .before .before .before .before .clamp .ensures) (c .before .before .before .before .before .before .before .before .before .process-sample .ensures) (c .before .before .before .before .before .before .before .before .process .ensures) (c .before .before .before .before .before .before .write .ensures) (c .before .before .curve .ensures),
       e .1,
       ap (λ (k : ℕ). a .v .drawn + k) (c .before .words-of .ensures),
+      guess-on (a .shape) (a .p) (a .v) (e .0) (e .2),
     )
 
 pub step-spec : {M : Type 1} → statement M

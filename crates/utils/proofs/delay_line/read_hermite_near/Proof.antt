@@ -1,15 +1,15 @@
--- `delay_line::read_hermite` meets its contract.
+-- `delay_line::read_hermite_near` meets its contract.
 use mathlib.Core.Path.{ap}
 use native.Mathlib.Omega.{arith}
 use denote.Ref.{now}
 use Rattle.ground.specs.declared.floats.Parts.{Parts}
 use Rattle.utils.proofs.DelayLine.{read-hermite}
 use borrow.Author.Needs.{needs}
-use Rattle.utils.proofs.delay_line.read_hermite.Statement.{statement}
-use Rattle.utils.proofs.delay_line.read_hermite.Tie as tie
+use Rattle.utils.proofs.delay_line.read_hermite_near.Statement.{statement}
+use Rattle.utils.proofs.delay_line.read_hermite_near.Tie as tie
 
-split-requires : tie.Need-split-requires
-split-requires c κs = search needs
+split-near-requires : tie.Need-split-near-requires
+split-near-requires c κs = search needs
 
 rounded-requires : tie.Need-rounded-requires
 rounded-requires c κs = search needs
@@ -49,14 +49,14 @@ returns c =
     let s = c .before .before .before .before .before .before in
     let a = s .before .before .args in
     let w = c .before .before .before .before .before .rounded in
-    read-hermite (now (a .line)) (a .write-ptr) (s .split .result .integral) (w .result) (a .delay) (s .split .result .fractional) _ _ _ _ _ (omega arith) (ap (λ (q : Parts). q .integral) (s .split .ensures)) (ap (λ (q : Parts). q .fractional) (s .split .ensures))
+    read-hermite (now (a .line)) (a .write-ptr) (s .split-near .result .integral) (w .result) (a .delay) (s .split-near .result .fractional) _ _ _ _ _ (omega arith) (ap (λ (q : Parts). q .integral) (s .split-near .ensures)) (ap (λ (q : Parts). q .fractional) (s .split-near .ensures))
     (w .ensures .0) (c .before .before .before .before .read .ensures) (c .before .before .before .read2 .ensures) (c .before .before .read3 .ensures) (c .before .read4 .ensures) (c .cubic .ensures)
 
-pub read-hermite-spec : {M : Type 1} → statement M
-read-hermite-spec =
+pub read-hermite-near-spec : {M : Type 1} → statement M
+read-hermite-near-spec =
     tie.close
     (tie.spec
-    split-requires
+    split-near-requires
     rounded-requires
     add-t
     add-t-2
