@@ -1,8 +1,9 @@
 -- What Rust does to an f32 by `as usize`, `min`, `clamp` and `abs`. Assumes nothing.
 use Prim.Native.Nat.{ℕ}
-use mathlib.Core.Bool.{false, cond, _&&_}
+use mathlib.Core.Bool.{Bool, false, cond, _&&_}
+use lib.Dec.{eqb}
 use lib.IntN.{pos}
-use lib.Ieee.{Float, nan, inf, fin, binary32, lt, le, isNan, ofInt, toUnsigned}
+use lib.Ieee.{Float, nan, inf, fin, binary32, lt, le, eq, isNan, ofInt, toBits, toUnsigned}
 use Rattle.ground.specs.declared.floats.Parts.{Parts}
 use Rattle.ground.specs.F32.{_⊖_, c0, c1, twoTo64}
 
@@ -31,3 +32,7 @@ unfoldable pub absF : Float → Float
 absF nan = nan
 absF (inf s) = inf false
 absF (fin s m e) = fin false m e
+
+-- the same float: equal, and zeros of one sign
+abbrev pub sameFloat : Float → Float → Bool
+sameFloat x y = eq x y && eqb (toBits binary32 x) (toBits binary32 y)

@@ -1,8 +1,8 @@
 // A float as the word of its bits.
 ghost use mathlib.Core.Path.{_≡_};
-ghost use mathlib.Core.Bool.{true, _&&_};
-ghost use lib.Dec.{eqb};
-ghost use lib.Ieee.{binary32, eq, ofBits, toBits};
+ghost use mathlib.Core.Bool.{true};
+ghost use lib.Ieee.{binary32, ofBits, toBits};
+ghost use Rattle.ground.specs.Floats.{sameFloat};
 
 // The float of a pattern; every NaN pattern is the one NaN.
 pub fn float_of(pattern: u32) -> f32
@@ -26,7 +26,7 @@ pub fn pattern_of(x: f32) -> u32
 
 // Whether x and y are one float: they are equal, and zeros have one sign.
 pub fn same(x: f32, y: f32) -> bool
-    ensures { λ r. ⌜ (r ≡ (eq x y && eqb (toBits binary32 x) (toBits binary32 y))) × (r ≡ true → x ≡ y) ⌝ }
+    ensures { λ r. ⌜ (r ≡ sameFloat x y) × (r ≡ true → x ≡ y) ⌝ }
 {
     if x == y {
         return f32::to_bits(x) == f32::to_bits(y);

@@ -1,20 +1,20 @@
 -- One loop over the frames is the excitation filter, then aux, then the string: laws over plain values. Assumes nothing.
 use mathlib.Core.Path.{_≡_, refl, sym, _∙_, ap}
-use mathlib.Core.Bool.{cond}
+use mathlib.Core.Bool.{Bool, false, cond}
 use mathlib.Core.List.{List}
-use Prim.Native.Nat.{ℕ, _-_, _≤_, _<_, _^_, min}
+use Prim.Native.Nat.{ℕ, _+_, _-_, _≤_, _<_, _^_, min}
 use native.Mathlib.Omega.{arith}
 use borrow.Author.Tests.{lt-ltb, le-ltb}
-use lib.ListN.{length, getD}
+use lib.ListN.{length, getD, set}
 use lib.Ieee.{Float, nan}
 use Rattle.ground.specs.F32.{c0}
 use Rattle.ground.specs.Draw.{Draw, Ran, run, counted}
 use Rattle.ground.specs.Frames.{frames, scan}
 use Rattle.ground.proofs.Draw.{run-bind, run-then}
-use Rattle.ground.proofs.Frames.{Scan, scan-puts}
+use Rattle.ground.proofs.Frames.{Scan, scan-puts, scan-turn, scan-end}
 use Rattle.utils.specs.declared.filter.Svf.{Svf}
-use Rattle.utils.specs.declared.filter.SvfOut.{SvfOut}
-use Rattle.utils.specs.Filter.{svfOf, svfStep, svfBuffer}
+use Rattle.utils.specs.declared.filter.Passed.{Passed}
+use Rattle.utils.specs.Filter.{svfStep, svfBuffer, passOf, Stays}
 use Rattle.noise.specs.declared.excitation.Knobs.{Knobs}
 use Rattle.noise.specs.declared.excitation.Counts.{Counts}
 use Rattle.noise.specs.Excitation.{raised, added}
@@ -38,23 +38,49 @@ pub record Block (temp temp2 out aux filtered : List Float) (n : ℕ) : Type 0 w
   pub filtered-size : length filtered ≡ n
   pub few : n ≤ 2 ^ 24
 
--- at a frame of the block the filter ahead is the filter's step there
-pub at-frame : {o : SvfOut} (s : Svf) (xs : List Float) (i : ℕ) → o ≡ aheadOf s xs i → i < length xs → o ≡ svfOf s (getD xs i nan)
-unfolding aheadOf
-at-frame s xs i e l = e ∙ rw (lt-ltb i (length xs) l)
-
-pub ahead-within : {o : SvfOut} (s : Svf) (xs : List Float) (i : ℕ) → i < length xs → o ≡ svfOf s (getD xs i nan) → o ≡ aheadOf s xs i
+-- the filter ahead, within the block and past its end
+pub ahead-within : {o : Passed} (s : Svf) (xs : List Float) (i : ℕ) → i < length xs → o ≡ passOf s (getD xs i nan) → o ≡ aheadOf s xs i
 unfolding aheadOf
 ahead-within s xs i l e = rw (lt-ltb i (length xs) l) e
 
-pub ahead-past : (s : Svf) (xs : List Float) (i : ℕ) → length xs ≤ i → _≡_ {A = SvfOut} (record { svf = s; out = c0 }) (aheadOf s xs i)
+pub ahead-past : (s : Svf) (xs : List Float) (i : ℕ) → length xs ≤ i → _≡_ {A = Passed} (record { svf = s; out = c0; stands = false }) (aheadOf s xs i)
 unfolding aheadOf
 ahead-past s xs i l = rw (le-ltb i (length xs) l)
 
--- what the filter gives at a frame is what temp_2 will have there
-pub filtered-at : {f s : Svf} {temp temp2 ys : List Float} {i : ℕ} {o : SvfOut} → Scan svfStep f temp temp2 i s ys → i < min (length temp) (length temp2)
-    → o ≡ svfOf s (getD temp i nan) → o .out ≡ getD (svfBuffer f temp temp2 .1) i nan
-filtered-at g l e = ap (λ (o : SvfOut). o .out) e ∙ sym (scan-puts svfStep nan nan g l)
+-- i frames are filtered, and the filter is past the next one
+pub record Filtering (f : Svf) (temp temp2 : List Float) (i : ℕ) (ys : List Float) (o : Passed) : Type 0 where
+  pub state : Svf
+  pub done : Scan svfStep f temp temp2 i state ys
+  pub ahead : o ≡ aheadOf state temp i
+  pub stays : Stays o (getD temp i nan)
+
+module _ {f : Svf} {temp temp2 ys : List Float} {i : ℕ} {o : Passed} (g : Filtering f temp temp2 i ys o) where
+  -- at a frame of the block the filter ahead is the filter's step there
+  pub at-frame : i < length temp → _≡_ {A = Svf × Float} (o .svf, o .out) (svfStep (g .state) (getD temp i nan) nan)
+  unfolding aheadOf passOf
+  at-frame l =
+      ap (λ (o : Passed). (o .svf, o .out)) (g .ahead)
+      ∙ ap (λ (b : Bool). let p = cond b (passOf (g .state) (getD temp i nan)) (record { svf = g .state; out = c0; stands = false }) in (p .svf, p .out))
+      (lt-ltb i (length temp) l)
+
+  -- what it gives there is what temp_2 will have
+  pub filtered-at : i < min (length temp) (length temp2) → o .out ≡ getD (svfBuffer f temp temp2 .1) i nan
+  filtered-at l = ap (λ (q : Svf × Float). q .1) (at-frame (omega (arith, l))) ∙ sym (scan-puts svfStep nan nan (g .done) l)
+
+  pub filtering-turn : {p : Passed} → i < min (length temp) (length temp2) → p ≡ aheadOf (o .svf) temp (i + 1) → Stays p (getD temp (i + 1) nan)
+      → Filtering f temp temp2 (i + 1) (set ys i (o .out)) p
+  filtering-turn l e s = record { state = o .svf; done = scan-turn nan nan (g .done) l (at-frame (omega (arith, l))); ahead = e; stays = s }
+
+  -- behind the last frame
+  pub filtering-end : {z : Svf} → length temp ≤ i → min (length temp) (length temp2) ≤ i → z ≡ o .svf → _≡_ {A = Svf × List Float} (z, ys) (svfBuffer f temp temp2)
+  filtering-end l k e =
+      ap (λ (s : Svf). (s, ys)) e
+      ∙ ap (λ (p : Passed). (p .svf, ys)) (g .ahead ∙ sym (ahead-past (g .state) temp i l))
+      ∙ scan-end (g .done) k
+
+-- where there is no frame the filter ahead is the filter itself
+pub none-ahead : {o : Passed} (s : Svf) (xs : List Float) → o ≡ aheadOf s xs 0 → length xs ≤ 0 → s ≡ o .svf
+none-ahead s xs e l = sym (ap (λ (p : Passed). p .svf) (e ∙ sym (ahead-past s xs 0 l)))
 
 -- what stands at the loop's end
 pub all-frames : (shape : StringNonLinearity) (p : Params) (f : Svf) (s : String × List Float) (temp temp2 out aux : List Float) (word : ℕ)

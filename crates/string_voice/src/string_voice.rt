@@ -7,15 +7,15 @@ ghost use lib.Ieee.{nan};
 ghost use Rattle.ground.specs.F32.{c0·5, c1};
 ghost use Rattle.ground.specs.Draw.{run, Ran};
 ghost use Rattle.waveguide.specs.String.{Good};
-ghost use Rattle.utils.specs.Filter.{svfOf};
+ghost use Rattle.utils.specs.Filter.{Stays};
 ghost use Rattle.noise.specs.Excitation.{added, Alike};
 ghost use Rattle.string_voice.specs.StringVoice.{voiceNew, voiceInit, voiceReset, cutoffFor, struck, burst, excitation, excitationWords, excitationCounts, Excited, exciteOf, amount, Sounded, soundOf, After, renderOf};
 ghost use Rattle.string_voice.specs.OneLoop.{Framed, framesOf, aheadOf};
 use noise::excitation::Counts;
 use noise::excitation::Knobs;
 use utils::filter::FrequencyApproximation;
+use utils::filter::Passed;
 use utils::filter::Svf;
-use utils::filter::SvfOut;
 use waveguide::string::Live;
 use waveguide::string::Params;
 use waveguide::string::String;
@@ -118,25 +118,33 @@ fn counts_of(sustain: bool, left: usize, n: usize) -> Counts
 }
 
 // The excitation filter past the first frame.
-fn filter_first(s: Svf, temp: &[f32]) -> SvfOut
-    ensures { λ r. ⌜ r ≡ aheadOf s (now (temp .entry)) 0 ⌝ }
+fn filter_first(s: Svf, temp: &[f32]) -> Passed
+    ensures { λ r. ⌜ (r ≡ aheadOf s (now (temp .entry)) 0) × Stays r (getD (now (temp .entry)) 0 nan) ⌝ }
 {
     if 0 < temp.len() {
-        return s.process(temp[0]);
+        return s.pass(temp[0]);
     }
-    SvfOut { svf: s, out: 0.0 }
+    Passed {
+        svf: s,
+        out: 0.0,
+        stands: false,
+    }
 }
 
-// The excitation filter past the frame i + 1, where o is the filter past the frame i and s what it was there.
-fn filter_on(s: Svf, o: SvfOut, temp: &[f32], i: usize) -> SvfOut
-    requires { ⌜ (o ≡ svfOf s (getD (now temp) i nan)) × (i < length (now temp)) ⌝ }
-    ensures { λ r. ⌜ r ≡ aheadOf (o .svf) (now (temp .entry)) (i + 1) ⌝ }
+// The excitation filter past the frame i + 1, where o is the filter past the frame i.
+fn filter_on(o: Passed, temp: &[f32], i: usize) -> Passed
+    requires { ⌜ Stays o (getD (now temp) i nan) × (i < length (now temp)) ⌝ }
+    ensures { λ r. ⌜ (r ≡ aheadOf (o .svf) (now (temp .entry)) (i + 1)) × Stays r (getD (now (temp .entry)) (i + 1) nan) ⌝ }
 {
     if i + 1 < temp.len() {
-        return s.process_after(o, temp[i], temp[i + 1]);
+        return o.pass_on(temp[i], temp[i + 1]);
     }
     let svf = o.svf;
-    SvfOut { svf, out: 0.0 }
+    Passed {
+        svf,
+        out: 0.0,
+        stands: false,
+    }
 }
 
 // Both halves' loops as one. The excitation filter is a frame ahead of the string, so that neither waits for the other.
@@ -172,9 +180,8 @@ fn sound_frames(
     let mut i = 0;
     while i < n {
         let x = ahead.out;
-        let next = filter_on(filter, ahead, temp, i);
+        ahead = filter_on(ahead, temp, i);
         filter = ahead.svf;
-        ahead = next;
         temp_2[i] = x;
         aux[i] += x;
         u = waveguide::string::advance(lines, u, shape, p, x);

@@ -1,4 +1,6 @@
 -- filter.rs: the approximate tangents, the DC blocker, and the state variable filter at its low pass. Assumes nothing.
+use mathlib.Core.Path.{_≡_}
+use mathlib.Core.Bool.{Bool, true, _&&_}
 use mathlib.Core.List.{List}
 use lib.Ieee.{Float, binary32, ofBits}
 use Rattle.utils.specs.declared.filter.FrequencyApproximation.{FrequencyApproximation}
@@ -6,8 +8,10 @@ use Rattle.utils.specs.declared.filter.FrequencyApproximation.the-varian
 use Rattle.utils.specs.declared.filter.DcBlocker.{DcBlocker}
 use Rattle.utils.specs.declared.filter.Svf.{Svf}
 use Rattle.utils.specs.declared.filter.SvfOut.{SvfOut}
+use Rattle.utils.specs.declared.filter.Passed.{Passed}
 use Rattle.ground.specs.F32.{_⊕_, _⊖_, _⊗_, _⊘_, c0, c0·01, c1, c100}
 use Rattle.ground.specs.Frames.{scan}
+use Rattle.ground.specs.Floats.{sameFloat}
 
 -- ---- constants, composed as in the Rust
 unfoldable pub mPi : Float
@@ -91,6 +95,17 @@ svfOf s x =
       svf = record { g = s .g; r = s .r; h = s .h; «state_1» = s .g ⊗ hp ⊕ bp; «state_2» = s .g ⊗ bp ⊕ lp };
       out = lp;
     }
+
+abbrev pub sameMemory : Svf → Svf → Bool
+sameMemory s t = sameFloat (s .«state_1») (t .«state_1») && sameFloat (s .«state_2») (t .«state_2»)
+
+-- process, with whether the memory stands
+unfoldable pub passOf : Svf → Float → Passed
+passOf s x = let o = svfOf s x in record { svf = o .svf; out = o .out; stands = sameMemory s (o .svf) }
+
+-- a filter that stands makes the same of the same sample
+abbrev pub Stays : Passed → Float → Type 0
+Stays o x = o .stands ≡ true → passOf (o .svf) x ≡ o
 
 -- process_buffer, at FilterMode::LowPass: the frames of the zipped buffers
 abbrev pub svfStep : Svf → Float → Float → Svf × Float

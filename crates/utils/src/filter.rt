@@ -1,6 +1,7 @@
 // Zero-delay-feedback filters: the state variable filter at its low pass, and the DC blocker.
 ghost use mathlib.Core.Path.{_≡_};
-ghost use Rattle.utils.specs.Filter.{tanOf, dcInit, dcOf, dcBuffer, svfNew, svfInit, svfReset, svfSetFQ, svfOf, svfBuffer};
+ghost use mathlib.Core.Bool.{true};
+ghost use Rattle.utils.specs.Filter.{tanOf, dcInit, dcOf, dcBuffer, svfNew, svfInit, svfReset, svfSetFQ, svfOf, sameMemory, passOf, Stays, svfBuffer};
 
 pub enum FrequencyApproximation {
     Fast,
@@ -91,6 +92,39 @@ pub struct SvfOut {
     pub out: f32,
 }
 
+// Whether the memory of two filters is the same.
+fn stands(s: Svf, t: Svf) -> bool
+    ensures { λ r. ⌜ (r ≡ sameMemory s t) × (r ≡ true → (s .«state_1» ≡ t .«state_1») × (s .«state_2» ≡ t .«state_2»)) ⌝ }
+{
+    if ground::bits::same(s.state_1, t.state_1) {
+        return ground::bits::same(s.state_2, t.state_2);
+    }
+    false
+}
+
+// The filter after a sample, the sample that it gives, and whether its memory is as it was.
+pub struct Passed {
+    pub svf: Svf,
+    pub out: f32,
+    pub stands: bool,
+}
+
+impl Passed {
+    // `pass` of y behind that of x: where neither the memory nor the sample has changed, the same again.
+    pub fn pass_on(self, x: f32, y: f32) -> Passed
+        requires { ⌜ Stays self x ⌝ }
+        ensures { λ r. ⌜ (r ≡ passOf (self .svf) y) × Stays r y ⌝ }
+    {
+        if self.stands {
+            if ground::bits::same(x, y) {
+                return self;
+            }
+        }
+        let svf = self.svf;
+        svf.pass(y)
+    }
+}
+
 impl Svf {
     pub fn new() -> Svf
         ensures { λ r. ⌜ r ≡ svfNew ⌝ }
@@ -154,20 +188,17 @@ impl Svf {
         SvfOut { svf, out: lp }
     }
 
-    // `process` of y, where o is what the filter before made of x: if neither its memory nor the sample has changed, it is o again.
-    pub fn process_after(self, o: SvfOut, x: f32, y: f32) -> SvfOut
-        requires { ⌜ o ≡ svfOf self x ⌝ }
-        ensures { λ r. ⌜ r ≡ svfOf (o .svf) y ⌝ }
+    // `process`, and whether the filter's memory stands.
+    pub fn pass(self, in_: f32) -> Passed
+        ensures { λ r. ⌜ (r ≡ passOf self in_) × Stays r in_ ⌝ }
     {
-        let after = o.svf;
-        if ground::bits::same(self.state_1, after.state_1) {
-            if ground::bits::same(self.state_2, after.state_2) {
-                if ground::bits::same(x, y) {
-                    return o;
-                }
-            }
+        let o = self.process(in_);
+        let svf = o.svf;
+        Passed {
+            svf,
+            out: o.out,
+            stands: stands(self, svf),
         }
-        after.process(y)
     }
 
     // `process_buffer` at the low pass: the frames that both buffers have.

@@ -1,7 +1,7 @@
 -- `string_voice::sound_frames` meets its contract: the loops that it joins, each by the law of loops over frames.
 use mathlib.Core.Path.{_≡_, refl, _∙_, ap}
 use mathlib.Core.List.{List}
-use Prim.Native.Nat.{_-_, _<_}
+use Prim.Native.Nat.{_-_, _≤_, _<_, min}
 use native.Mathlib.Omega.{arith}
 use borrow.Author.Needs.{needs}
 use denote.Ref.{now}
@@ -12,26 +12,24 @@ use Rattle.ground.specs.Draw.{counted}
 use Rattle.ground.specs.Frames.{frames}
 use Rattle.ground.proofs.Draw.{run-then}
 use Rattle.ground.proofs.Frames.{Scan, Frames, frames-begin, frames-turn, frames-good, length-scan, scan-turn, scan-end}
-use Rattle.utils.specs.declared.filter.SvfOut.{SvfOut}
 use Rattle.utils.specs.Filter.{svfStep, svfBuffer}
 use Rattle.noise.specs.Excitation.{addStep}
 use Rattle.waveguide.specs.declared.string.String.{String}
 use Rattle.waveguide.specs.String.{moved, frameOf, Ahead, Good}
 use Rattle.waveguide.proofs.Steps.{begun-ahead, begun-drawn, begun-good, begun-run, frame-good, wordsTo, words-to-few, words-turn, words-end}
-use Rattle.string_voice.specs.OneLoop.{aheadOf}
-use Rattle.string_voice.proofs.OneLoop.{Block, at-frame, filtered-at, all-frames}
+use Rattle.string_voice.proofs.OneLoop.{Block, Filtering, filtered-at, filtering-turn, filtering-end, none-ahead, all-frames}
 use Rattle.string_voice.proofs.string_voice.sound_frames.Statement.{statement}
 use Rattle.string_voice.proofs.string_voice.sound_frames.Tie as tie
 
 abbrev Inv-loop : tie.InvT-loop
 Inv-loop lines₀ shape p temp temp-2₀ out₀ aux₀ n u₀ filter₀ ahead₀ i₀ lines temp-2 out aux u filter ahead i =
     let xs = svfBuffer filter₀ temp temp-2₀ .1 in
-    Scan svfStep filter₀ temp temp-2₀ i filter temp-2
+    Filtering filter₀ temp temp-2₀ i temp-2 ahead
     × Scan addStep tt xs aux₀ i tt aux
     × Frames (frameOf shape p) (u₀ .string, lines₀) xs out₀ (u₀ .word) i (u .string, lines) out (u .word)
     × Ahead p u
     × (u .drawn ≡ wordsTo shape p (u₀ .string .«src_phase») i)
-    × (ahead ≡ aheadOf filter temp i)
+    × (length temp ≤ i → filter ≡ ahead .svf)
     × Block temp temp-2₀ out₀ aux₀ xs n
 
 abbrev μ-loop : tie.MeasureT-loop
@@ -49,12 +47,12 @@ loop-holds c =
     let a = s .args in
     let q = s .pre .2 in
     let e = c .before .begin .ensures in (
-      frames-begin,
+      record { state = a .f; done = frames-begin; ahead = c .filter-first .ensures .0; stays = c .filter-first .ensures .1 },
       frames-begin,
       frames-begin,
       begun-ahead (a .p) (a .v) _ e,
       begun-drawn (a .p) (a .v) _ e,
-      c .filter-first .ensures,
+      none-ahead (a .f) (now (a .temp)) (c .filter-first .ensures .0),
       record {
         all = refl;
         temp2-size = q .temp2-is;
@@ -66,11 +64,7 @@ loop-holds c =
     )
 
 filter-on-requires : tie.Need-filter-on-requires Inv-loop μ-loop
-filter-on-requires c κs =
-    let a = c .before .before .before .before .before .before .before .before .before .args in
-    let l = c .before .loop in
-    let lt : l .i < length (now (a .temp)) = omega (arith, l .inv .6 .all, c .loop-test) in
-    (at-frame (l .filter) (now (a .temp)) (l .i) (l .inv .5) lt, lt)
+filter-on-requires c κs = let v = c .before .loop .inv in (v .0 .stays, omega (arith, v .6 .all, c .loop-test))
 
 mul-temp-2 : tie.Need-mul-temp-2 Inv-loop μ-loop
 mul-temp-2 c = omega (arith, c .before .before .before .loop .inv .6, c .before .before .loop-test)
@@ -129,16 +123,17 @@ loop-again c =
     let z = v .6 in
     let xs = svfBuffer (a .f) (now (a .temp)) (now (a .temp-2)) .1 in
     let lt : l .i < length (now (a .temp)) = omega (arith, z .all, c .before .before .before .before .before .before .before .before .before .loop-test) in
-    let e = at-frame (l .filter) (now (a .temp)) (l .i) (v .5) lt in
-    let x = filtered-at (v .0) (omega (arith, z, lt)) e in
+    let within : l .i < min (length (now (a .temp))) (length (now (a .temp-2))) = omega (arith, z, lt) in
+    let x = filtered-at (v .0) within in
+    let q = c .before .before .before .before .before .before .before .before .filter-on .ensures in
     let m = c .before .before .before .before .advance .ensures in
     let good = begun-good (a .p) (a .v) _ (b .ensures) (now (a .lines)) (s .pre .0) in (
-      scan-turn nan nan (v .0) (omega (arith, z, lt)) (ap (λ (o : SvfOut). (o .svf, o .out)) e),
+      filtering-turn (v .0) within (q .0) (q .1),
       scan-turn nan nan (v .1) (omega (arith, z, lt)) (ap (λ (x : Float). (tt, getD (l .aux) (l .i) nan ⊕ x)) x),
       frames-turn nan nan (v .2) (omega (arith, z, lt)) (rw (← x, c .mix .ensures) (run-then (moved (a .shape) (a .p) _ (l .u .string, l .lines)) _ (l .u .word) (m .0))),
       m .1,
       words-turn (a .shape) (a .p) (b .result .string, now (a .lines)) xs (now (a .out)) (b .result .word) good (l .i) (l .u .drawn) _ (v .2) (omega (arith, z, lt)) (v .4) (m .2),
-      c .before .before .before .before .before .before .before .before .filter-on .ensures,
+      λ k. refl,
       z,
     )
 
@@ -151,7 +146,7 @@ same-length c =
     omega (arith, s .pre .0 .size, g .size)
 
 same-length-2 : tie.Need-same-length-2 Inv-loop μ-loop
-same-length-2 c = c .before .before .loop .inv .0 .size
+same-length-2 c = c .before .before .loop .inv .0 .done .size
 
 same-length-3 : tie.Need-same-length-3 Inv-loop μ-loop
 same-length-3 c = c .before .before .loop .inv .2 .size
@@ -170,7 +165,7 @@ returns c =
     let xs = svfBuffer (a .f) (now (a .temp)) (now (a .temp-2)) .1 in
     let good = begun-good (a .p) (a .v) _ (b .ensures) (now (a .lines)) (s .pre .0) in
     all-frames (a .shape) (a .p) (a .f) (a .v .string, now (a .lines)) (now (a .temp)) (now (a .temp-2)) (now (a .out)) (now (a .aux)) (a .v .word)
-    (scan-end (v .0) (omega (arith, z, c .before .loop-test)))
+    (let past : length (now (a .temp)) ≤ l .i = omega (arith, z .all, c .before .loop-test) in filtering-end (v .0) past (omega (arith, past)) (v .5 past))
     (ap (λ (q : Unit {0} × List Float). q .1) (scan-end (v .1) (omega (arith, z, c .before .loop-test))))
     (begun-run (a .p) (a .v) (b .result) (b .ensures) (λ (t : String). counted (frames (frameOf (a .shape) (a .p)) (t, now (a .lines)) xs (now (a .out))))
     (words-end (a .shape) (a .p) (b .result .string, now (a .lines)) xs (now (a .out)) (b .result .word) good (l .i) (l .u .drawn) (v .2) (omega (arith, z, c .before .loop-test)) (v .4)))
