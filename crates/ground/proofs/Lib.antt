@@ -1,6 +1,7 @@
 -- Laws that the proofs of this crate and of others cite. Assumes nothing.
 pub mod Draw
 pub mod Frames
+pub mod Lead
 pub mod Tab
 pub mod Exchange
 pub mod Part

@@ -2,19 +2,17 @@
 use mathlib.Core.Path.{_≡_, refl, sym, _∙_, ap}
 use mathlib.Core.Bool.{Bool, false, cond}
 use mathlib.Core.List.{List}
-use Prim.Native.Nat.{ℕ, _+_, _-_, _≤_, _<_, _^_, min}
-use native.Mathlib.Omega.{arith}
+use Prim.Native.Nat.{ℕ, _-_, _≤_, _<_, _^_, min}
 use borrow.Author.Tests.{lt-ltb, le-ltb}
-use lib.ListN.{length, getD, set}
+use lib.ListN.{length, getD}
 use lib.Ieee.{Float, nan}
 use Rattle.ground.specs.F32.{c0}
 use Rattle.ground.specs.Draw.{Draw, Ran, run, counted}
 use Rattle.ground.specs.Frames.{frames, scan}
 use Rattle.ground.proofs.Draw.{run-bind, run-then}
-use Rattle.ground.proofs.Frames.{Scan, scan-puts, scan-turn, scan-end}
 use Rattle.utils.specs.declared.filter.Svf.{Svf}
 use Rattle.utils.specs.declared.filter.Passed.{Passed}
-use Rattle.utils.specs.Filter.{svfStep, svfBuffer, passOf, Stays}
+use Rattle.utils.specs.Filter.{svfStep, svfBuffer, passOf}
 use Rattle.noise.specs.declared.excitation.Knobs.{Knobs}
 use Rattle.noise.specs.declared.excitation.Counts.{Counts}
 use Rattle.noise.specs.Excitation.{raised, added}
@@ -47,40 +45,20 @@ pub ahead-past : (s : Svf) (xs : List Float) (i : ℕ) → length xs ≤ i → _
 unfolding aheadOf
 ahead-past s xs i l = rw (le-ltb i (length xs) l)
 
--- i frames are filtered, and the filter is past the next one
-pub record Filtering (f : Svf) (temp temp2 : List Float) (i : ℕ) (ys : List Float) (o : Passed) : Type 0 where
-  pub state : Svf
-  pub done : Scan svfStep f temp temp2 i state ys
-  pub ahead : o ≡ aheadOf state temp i
-  pub stays : Stays o (getD temp i nan)
+-- a sample through the excitation filter
+abbrev pub filterOf : Svf → Float → Svf × Float
+filterOf s x = svfStep s x nan
 
-module _ {f : Svf} {temp temp2 ys : List Float} {i : ℕ} {o : Passed} (g : Filtering f temp temp2 i ys o) where
-  -- at a frame of the block the filter ahead is the filter's step there
-  pub at-frame : i < length temp → _≡_ {A = Svf × Float} (o .svf, o .out) (svfStep (g .state) (getD temp i nan) nan)
+module _ {o : Passed} (s : Svf) (xs : List Float) (i : ℕ) (e : o ≡ aheadOf s xs i) where
+  pub ahead-step : i < length xs → _≡_ {A = Svf × Float} (o .svf, o .out) (filterOf s (getD xs i nan))
   unfolding aheadOf passOf
-  at-frame l =
-      ap (λ (o : Passed). (o .svf, o .out)) (g .ahead)
-      ∙ ap (λ (b : Bool). let p = cond b (passOf (g .state) (getD temp i nan)) (record { svf = g .state; out = c0; stands = false }) in (p .svf, p .out))
-      (lt-ltb i (length temp) l)
+  ahead-step l =
+      ap (λ (o : Passed). (o .svf, o .out)) e
+      ∙ ap (λ (b : Bool). let p = cond b (passOf s (getD xs i nan)) (record { svf = s; out = c0; stands = false }) in (p .svf, p .out))
+      (lt-ltb i (length xs) l)
 
-  -- what it gives there is what temp_2 will have
-  pub filtered-at : i < min (length temp) (length temp2) → o .out ≡ getD (svfBuffer f temp temp2 .1) i nan
-  filtered-at l = ap (λ (q : Svf × Float). q .1) (at-frame (omega (arith, l))) ∙ sym (scan-puts svfStep nan nan (g .done) l)
-
-  pub filtering-turn : {p : Passed} → i < min (length temp) (length temp2) → p ≡ aheadOf (o .svf) temp (i + 1) → Stays p (getD temp (i + 1) nan)
-      → Filtering f temp temp2 (i + 1) (set ys i (o .out)) p
-  filtering-turn l e s = record { state = o .svf; done = scan-turn nan nan (g .done) l (at-frame (omega (arith, l))); ahead = e; stays = s }
-
-  -- behind the last frame
-  pub filtering-end : {z : Svf} → length temp ≤ i → min (length temp) (length temp2) ≤ i → z ≡ o .svf → _≡_ {A = Svf × List Float} (z, ys) (svfBuffer f temp temp2)
-  filtering-end l k e =
-      ap (λ (s : Svf). (s, ys)) e
-      ∙ ap (λ (p : Passed). (p .svf, ys)) (g .ahead ∙ sym (ahead-past (g .state) temp i l))
-      ∙ scan-end (g .done) k
-
--- where there is no frame the filter ahead is the filter itself
-pub none-ahead : {o : Passed} (s : Svf) (xs : List Float) → o ≡ aheadOf s xs 0 → length xs ≤ 0 → s ≡ o .svf
-none-ahead s xs e l = sym (ap (λ (p : Passed). p .svf) (e ∙ sym (ahead-past s xs 0 l)))
+  pub ahead-end : length xs ≤ i → o .svf ≡ s
+  ahead-end l = ap (λ (p : Passed). p .svf) (e ∙ sym (ahead-past s xs i l))
 
 -- what stands at the loop's end
 pub all-frames : (shape : StringNonLinearity) (p : Params) (f : Svf) (s : String × List Float) (temp temp2 out aux : List Float) (word : ℕ)
