@@ -9,5 +9,4 @@ pub mod Words
 pub mod Rounding
 pub mod Signs
 pub mod Wholes
-pub mod Feed
 pub mod Nans

@@ -1,18 +1,18 @@
 -- One loop over the frames is the excitation filter, then aux, then the modes: laws over plain values. Assumes nothing.
 use mathlib.Core.Path.{_≡_, refl, sym, _∙_, ap}
-use mathlib.Core.Bool.{Bool}
+use mathlib.Core.Bool.{Bool, false, _&&_, cond}
 use mathlib.Core.List.{List}
-use Prim.Native.Nat.{ℕ, _*_, _^_, _<_}
-use borrow.Author.Tests.{lt-ltb}
+use Prim.Native.Nat.{ℕ, _*_, _^_, _≤_, _<_}
+use borrow.Author.Tests.{lt-ltb, le-ltb}
 use lib.ListN.{getD, length}
 use lib.Ieee.{Float, nan}
-use Rattle.ground.specs.F32.{_⊕_, c1}
+use Rattle.ground.specs.F32.{_⊕_, _⊗_, c0, c1}
 use Rattle.ground.specs.Draw.{run}
 use Rattle.ground.specs.Frames.{scan}
-use Rattle.ground.proofs.Feed.{fill, feeding, feed}
+use Rattle.ground.proofs.Lead.{fill}
 use Rattle.noise.specs.declared.excitation.Knobs.{Knobs}
 use Rattle.noise.specs.declared.excitation.Counts.{Counts}
-use Rattle.noise.specs.Excitation.{raised, addStep, added}
+use Rattle.noise.specs.Excitation.{raised, added}
 use Rattle.modes.specs.declared.resonator.ResonatorSvf.{ResonatorSvf}
 use Rattle.modes.specs.declared.resonator.Batch.{Batch}
 use Rattle.modes.specs.declared.resonator.Mode.{Mode}
@@ -20,10 +20,12 @@ use Rattle.modes.specs.declared.resonator.Modes.{Modes}
 use Rattle.modes.specs.declared.resonator.States.{States}
 use Rattle.modal_voice.specs.declared.modal_voice.Ahead.{Ahead}
 use Rattle.modal_voice.specs.declared.modal_voice.ModalVoice.{ModalVoice}
-use Rattle.modes.specs.Resonator.{modeOf, lowStep, lowBlock}
+use Rattle.modes.specs.declared.resonator.Ticked.{Ticked}
+use Rattle.modes.specs.Resonator.{modeOf, tickOf, lowStep, lowBlock}
+use Rattle.modes.specs.Subnormal.{isSmall}
 use Rattle.modes.specs.OnePass.{modesFor, statesOf, filtersOf, frameOf, onePass}
 use Rattle.modal_voice.specs.ModalVoice.{cutoffFor, resonanceFor, excitation, heldAfter, excitationWords, excitationCounts, renderOf}
-use Rattle.modal_voice.specs.OneLoop.{Framed, framesOf, aheadOf}
+use Rattle.modal_voice.specs.OneLoop.{Framed, framesOf, sameMemory, passOf, aheadOf}
 use Rattle.modes.proofs.OnePass.{processed}
 use Rattle.modal_voice.proofs.Halves.{excited, sounded, rendered}
 
@@ -31,55 +33,60 @@ use Rattle.modal_voice.proofs.Halves.{excited, sounded, rendered}
 abbrev pub lowOf : Mode → ResonatorSvf → Float → ResonatorSvf × Float
 lowOf k s x = lowStep k s x nan
 
--- a block of n frames
-pub record Block (temp temp2 out aux : List Float) (n : ℕ) : Type 0 where
+-- a block of n frames, and what its filter leaves in temp_2
+pub record Block (temp temp2 out aux filtered : List Float) (n : ℕ) : Type 0 where
   pub all : n ≡ length temp
   pub temp2-size : length temp2 ≡ n
   pub out-size : length out ≡ n
   pub aux-size : length aux ≡ n
+  pub filtered-size : length filtered ≡ n
   pub small : n * 4 < 2 ^ 63
 
--- at a frame of the block the filter ahead is the filter's step there
-pub at-frame : {a : Ahead} (k : Mode) (s : ResonatorSvf) (xs : List Float) (i : ℕ) → a ≡ aheadOf k s xs i → i < length xs
-    → _≡_ {A = ResonatorSvf × Float} (a .svf, a .x) (lowOf k s (getD xs i nan))
+-- what the calls of a filter's step ensure, put together
+pub filter-passed : (k : Mode) (s : ResonatorSvf) (x : Float) {t : Ticked} {y : Float} {b : Bool} → t ≡ tickOf k s x → y ≡ k .gain ⊗ t .lp → b ≡ (isSmall s && sameMemory s (t .svf))
+    → _≡_ {A = Ahead} (record { svf = t .svf; x = c0 ⊕ y; stands = b }) (passOf k s x)
+unfolding passOf scan
+filter-passed k s x et ey eb =
+    λ i. record {
+      svf = et i .svf;
+      x = (ap (λ (y : Float). c0 ⊕ y) ey ∙ ap (λ (t : Ticked). c0 ⊕ k .gain ⊗ t .lp) et) i;
+      stands = (eb ∙ ap (λ (t : Ticked). isSmall s && sameMemory s (t .svf)) et) i;
+    }
+
+-- the filter ahead, within the block and past its end
+pub ahead-within : {o : Ahead} (k : Mode) (s : ResonatorSvf) (xs : List Float) (i : ℕ) → i < length xs → o ≡ passOf k s (getD xs i nan) → o ≡ aheadOf k s xs i
 unfolding aheadOf
-at-frame k s xs i e l = ap (λ (a : Ahead). (a .svf, a .x)) (e ∙ rw (lt-ltb i (length xs) l))
+ahead-within k s xs i l e = rw (lt-ltb i (length xs) l) e
 
--- what the frame leaves in aux, and in out
-module _ (k : Mode) (s : ResonatorSvf) (t y : Float) {svf : ResonatorSvf} {x : Float} (e : _≡_ {A = ResonatorSvf × Float} (svf, x) (lowOf k s t)) where
-  pub aux-frame : _≡_ {A = (ResonatorSvf × Unit {0}) × Float} ((svf, tt), y ⊕ x) (feeding (lowOf k) addStep (s, tt) t y)
-  aux-frame = λ j. ((e j .0, tt), y ⊕ e j .1)
+pub ahead-past : (k : Mode) (s : ResonatorSvf) (xs : List Float) (i : ℕ) → length xs ≤ i → _≡_ {A = Ahead} (record { svf = s; x = c0; stands = false }) (aheadOf k s xs i)
+unfolding aheadOf
+ahead-past k s xs i l = rw (le-ltb i (length xs) l)
 
-  pub out-frame : (m : Modes) (w : List Float × List Float) {v : List Float × List Float} {z : Float}
-      → _≡_ {A = (List Float × List Float) × Float} (v, z) (frameOf m w x y)
-      → _≡_ {A = (ResonatorSvf × (List Float × List Float)) × Float} ((svf, v), z) (feeding (lowOf k) (frameOf m) (s, w) t y)
-  out-frame m w {v} {z} f =
-      let q = f ∙ ap (λ (x : Float). frameOf m w x y) (ap (λ (u : ResonatorSvf × Float). u .1) e) in
-      λ j. ((e j .0, q j .0), q j .1)
+module _ {o : Ahead} (k : Mode) (s : ResonatorSvf) (xs : List Float) (i : ℕ) (e : o ≡ aheadOf k s xs i) where
+  pub ahead-step : i < length xs → _≡_ {A = ResonatorSvf × Float} (o .svf, o .x) (lowOf k s (getD xs i nan))
+  unfolding aheadOf passOf
+  ahead-step l =
+      ap (λ (o : Ahead). (o .svf, o .x)) e
+      ∙ ap (λ (b : Bool). let p = cond b (passOf k s (getD xs i nan)) (record { svf = s; x = c0; stands = false }) in (p .svf, p .x))
+      (lt-ltb i (length xs) l)
+
+  pub ahead-end : length xs ≤ i → o .svf ≡ s
+  ahead-end l = ap (λ (p : Ahead). p .svf) (e ∙ sym (ahead-past k s xs i l))
 
 -- what stands at the loop's end
 pub all-frames : (k : Mode) (s : ResonatorSvf) (m : Modes) (fs : List Batch) (temp temp2 out aux : List Float)
-    {z : ResonatorSvf} {u : States} {one two temp2' out' aux' : List Float} {gs : List Batch} → length temp2 ≡ length temp
+    {z : ResonatorSvf} {u : States} {one two temp2' out' aux' : List Float} {gs : List Batch}
     → u ≡ statesOf fs
     → _≡_ {A = ResonatorSvf × List Float} (z, temp2') (scan (fill (lowOf k)) s temp temp2)
-    → _≡_ {A = (ResonatorSvf × Unit {0}) × List Float} ((z, tt), aux') (scan (feeding (lowOf k) addStep) (s, tt) temp aux)
-    → _≡_ {A = (ResonatorSvf × (List Float × List Float)) × List Float}
-    ((z, (one, two)), out')
-    (scan (feeding (lowOf k) (frameOf m)) (s, (u .«state_1», u .«state_2»)) temp out)
+    → aux' ≡ added (scan (fill (lowOf k)) s temp temp2 .1) aux
+    → _≡_ {A = (List Float × List Float) × List Float} ((one, two), out') (scan (frameOf m) (u .«state_1», u .«state_2») (scan (fill (lowOf k)) s temp temp2 .1) out)
     → gs ≡ filtersOf one two
     → _≡_ {A = Framed} (record { filter = z; «mode_filters» = gs; temp2 = temp2'; out = out'; aux = aux' }) (framesOf k s m fs temp temp2 out aux)
 unfolding framesOf onePass lowBlock
-all-frames k s m fs temp temp2 out aux {z} {u} {one} {two} {temp2'} {out'} {aux'} {gs} h es et ea eo eg =
-    let w : List Float × List Float = (u .«state_1», u .«state_2») in
-    let ha =
-    ap (λ (q : (ResonatorSvf × Unit {0}) × List Float). q .1) ea
-    ∙ sym (ap (λ (q : Unit {0} × List Float). q .1) (feed (lowOf k) addStep s tt temp temp2 aux h)) in
-    let ho =
-    ap (λ (q : (ResonatorSvf × (List Float × List Float)) × List Float). (q .0 .1, q .1)) eo
-    ∙ sym (feed (lowOf k) (frameOf m) s w temp temp2 out h)
-    ∙ ap (λ (v : States). scan (frameOf m) (v .«state_1», v .«state_2») (scan (fill (lowOf k)) s temp temp2 .1) out) es in
+all-frames k s m fs temp temp2 out aux es et ea eo eg =
+    let ho = eo ∙ ap (λ (v : States). scan (frameOf m) (v .«state_1», v .«state_2») (scan (fill (lowOf k)) s temp temp2 .1) out) es in
     let hg = eg ∙ ap (λ (q : (List Float × List Float) × List Float). filtersOf (q .0 .0) (q .0 .1)) ho in
-    λ j. record { filter = et j .0; «mode_filters» = hg j; temp2 = et j .1; out = ho j .1; aux = ha j }
+    λ j. record { filter = et j .0; «mode_filters» = hg j; temp2 = et j .1; out = ho j .1; aux = ea j }
 
 -- ---- what the loop leaves, as the halves leave it
 module _ (k : Mode) (s : ResonatorSvf) (m : Modes) (fs : List Batch) (temp temp2 out aux : List Float)

@@ -1,14 +1,14 @@
 -- Both halves' loops of a render as one: the excitation filter a frame ahead of the modes. Assumes nothing.
 use mathlib.Core.Path.{_≡_}
-use mathlib.Core.Bool.{cond}
+use mathlib.Core.Bool.{Bool, true, false, _&&_, cond}
 use mathlib.Core.List.{List}
 use Prim.Native.Nat.{ℕ}
 use lib.Dec.{ltb}
 use lib.ListN.{length, getD}
 use lib.Ieee.{Float, nan}
 use Rattle.ground.specs.F32.{c0}
+use Rattle.ground.specs.Floats.{sameFloat}
 use Rattle.noise.specs.Excitation.{added}
-pub use Rattle.noise.specs.Excitation.{Alike}
 use Rattle.modes.specs.declared.resonator.ResonatorSvf.{ResonatorSvf}
 use Rattle.modes.specs.declared.resonator.Batch.{Batch}
 use Rattle.modes.specs.declared.resonator.Mode.{Mode}
@@ -16,6 +16,7 @@ use Rattle.modes.specs.declared.resonator.Modes.{Modes}
 use Rattle.modal_voice.specs.declared.modal_voice.Ahead.{Ahead}
 use Rattle.modes.specs.Resonator.{lowStep, lowBlock}
 use Rattle.modes.specs.OnePass.{onePass}
+use Rattle.modes.specs.Subnormal.{isSmall}
 
 -- what the loop leaves
 pub record Framed : Type 0 where
@@ -32,6 +33,17 @@ framesOf k s m fs temp temp2 out aux =
     let p = onePass m fs (e .1) out in
     record { filter = e .0; «mode_filters» = p .0; temp2 = e .1; out = p .1; aux = added (e .1) aux }
 
+abbrev pub sameMemory : ResonatorSvf → ResonatorSvf → Bool
+sameMemory s t = sameFloat (s .«state_1») (t .«state_1») && sameFloat (s .«state_2») (t .«state_2»)
+
+-- a sample through the filter, with whether its memory is small and stands
+unfoldable pub passOf : Mode → ResonatorSvf → Float → Ahead
+passOf k s x = let u = lowStep k s x nan in record { svf = u .0; x = u .1; stands = isSmall s && sameMemory s (u .0) }
+
+-- a filter that stands makes the same of the same sample
+abbrev pub Stays : Mode → Ahead → Float → Type 0
+Stays k o x = o .stands ≡ true → passOf k (o .svf) x ≡ o
+
 -- the filter past the frame i; past the last it stands as it is
 unfoldable pub aheadOf : Mode → ResonatorSvf → List Float → ℕ → Ahead
-aheadOf k s xs i = cond (ltb i (length xs)) (let u = lowStep k s (getD xs i nan) nan in record { svf = u .0; x = u .1 }) (record { svf = s; x = c0 })
+aheadOf k s xs i = cond (ltb i (length xs)) (passOf k s (getD xs i nan)) (record { svf = s; x = c0; stands = false })

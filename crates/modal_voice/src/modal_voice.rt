@@ -1,13 +1,19 @@
 // Simple modal synthesis voice with a mallet exciter: click -> LPF -> resonator. With sustain the click is replaced by dust.
 ghost use mathlib.Core.Path.{_≡_};
-ghost use mathlib.Core.Bool.{cond};
+ghost use mathlib.Core.Bool.{true, false, cond};
+ghost use Prim.Native.Nat.{_+_, _<_};
+ghost use lib.ListN.{length, getD};
+ghost use lib.Ieee.{nan};
 ghost use Rattle.ground.specs.F32.{_⊗_, c0·7, c1·5, c2, c4, c36, c60};
 ghost use Rattle.ground.specs.Draw.{ret, run, Ran};
-ghost use Rattle.modal_voice.specs.OneLoop.{Alike, Framed, framesOf, aheadOf};
+ghost use Rattle.noise.specs.Excitation.{Alike};
+ghost use Rattle.modes.specs.Subnormal.{isSmall};
+ghost use Rattle.modal_voice.specs.OneLoop.{Framed, framesOf, sameMemory, passOf, Stays, aheadOf};
 ghost use Rattle.modal_voice.specs.ModalVoice.{voiceNew, voiceInit, cutoffFor, strikeOf, clicked, excitation, heldAfter, excitationWords, excitationCounts, Excited, exciteOf, Sounded, soundOf, After, renderOf};
 use modes::resonator::Batch;
 use modes::resonator::Mode;
 use modes::resonator::Modes;
+use modes::resonator::Quiet;
 use modes::resonator::Resonator;
 use modes::resonator::ResonatorSvf;
 use noise::excitation::Counts;
@@ -129,10 +135,11 @@ fn counts_of(sustain: bool, n: usize) -> Counts
     }
 }
 
-// The excitation filter after a frame, and what it gave there.
+// The excitation filter after a frame, what it gave there, and whether its memory is small and stands.
 pub struct Ahead {
     pub svf: ResonatorSvf,
     pub x: f32,
+    pub stands: bool,
 }
 
 // Both filters after a block.
@@ -141,19 +148,83 @@ pub struct Filtered {
     pub mode_filters: [Batch; 6],
 }
 
-// The excitation filter past the frame i; past the last frame it stands as it is.
-fn filter_ahead(k: Mode, s: ResonatorSvf, temp: &[f32], i: usize) -> Ahead
-    ensures { λ r. ⌜ r ≡ aheadOf k s (now (temp .entry)) i ⌝ }
+// Whether the memory of two filters is the same.
+fn stands(s: ResonatorSvf, t: ResonatorSvf) -> bool
+    ensures { λ r. ⌜ (r ≡ sameMemory s t) × (r ≡ true → s ≡ t) ⌝ }
 {
-    if i < temp.len() {
-        let t = modes::resonator::tick_at(true, k, s, temp[i]);
-        let svf = t.svf;
-        return Ahead {
-            svf,
-            x: 0.0 + modes::resonator::scale(true, k.gain, t.lp),
-        };
+    if ground::bits::same(s.state_1, t.state_1) {
+        return ground::bits::same(s.state_2, t.state_2);
     }
-    Ahead { svf: s, x: 0.0 }
+    false
+}
+
+// A sample through the excitation filter, whose memory is not small.
+fn pass_loud(k: Mode, s: ResonatorSvf, in_: f32) -> Ahead
+    requires { ⌜ isSmall s ≡ false ⌝ }
+    ensures { λ r. ⌜ (r ≡ passOf k s in_) × Stays k r in_ ⌝ }
+{
+    let t = modes::resonator::tick(k, s, in_);
+    let svf = t.svf;
+    Ahead {
+        svf,
+        x: 0.0 + k.gain * t.lp,
+        stands: false,
+    }
+}
+
+// The same where it is small.
+fn pass_small(k: Mode, s: ResonatorSvf, in_: f32) -> Ahead
+    requires { ⌜ isSmall s ≡ true ⌝ }
+    ensures { λ r. ⌜ (r ≡ passOf k s in_) × Stays k r in_ ⌝ }
+{
+    let t = modes::resonator::tick_at(true, k, s, in_);
+    let svf = t.svf;
+    Ahead {
+        svf,
+        x: 0.0 + modes::resonator::scale(true, k.gain, t.lp),
+        stands: stands(s, svf),
+    }
+}
+
+// The excitation filter past the first frame.
+fn filter_first(k: Mode, s: ResonatorSvf, temp: &[f32]) -> Ahead
+    ensures { λ r. ⌜ (r ≡ aheadOf k s (now (temp .entry)) 0) × Stays k r (getD (now (temp .entry)) 0 nan) ⌝ }
+{
+    if 0 < temp.len() {
+        if modes::resonator::is_small(s) {
+            return pass_small(k, s, temp[0]);
+        }
+        return pass_loud(k, s, temp[0]);
+    }
+    Ahead {
+        svf: s,
+        x: 0.0,
+        stands: false,
+    }
+}
+
+// The excitation filter past the frame i + 1, where o is the filter past the frame i.
+fn filter_on(k: Mode, o: Ahead, temp: &[f32], i: usize) -> Ahead
+    requires { ⌜ Stays k o (getD (now temp) i nan) × (i < length (now temp)) ⌝ }
+    ensures { λ r. ⌜ (r ≡ aheadOf k (o .svf) (now (temp .entry)) (i + 1)) × Stays k r (getD (now (temp .entry)) (i + 1) nan) ⌝ }
+{
+    let svf = o.svf;
+    if i + 1 < temp.len() {
+        if o.stands {
+            if ground::bits::same(temp[i], temp[i + 1]) {
+                return o;
+            }
+        }
+        if modes::resonator::is_small(svf) {
+            return pass_small(k, svf, temp[i + 1]);
+        }
+        return pass_loud(k, svf, temp[i + 1]);
+    }
+    Ahead {
+        svf,
+        x: 0.0,
+        stands: false,
+    }
 }
 
 // Both halves' loops as one. The excitation filter is a frame ahead of the modes, so that neither waits for the other.
@@ -177,28 +248,32 @@ fn sound_frames(
     let states = modes::resonator::states_of(mode_filters);
     let mut state_1 = states.state_1;
     let mut state_2 = states.state_2;
-    let mut bands = [0.0f32; 24];
+    let mut quiet = Quiet {
+        low: false,
+        high: false,
+    };
     let n = temp.len();
     let mut filter = s;
-    let mut ahead = filter_ahead(k, filter, temp, 0);
+    let mut ahead = filter_first(k, filter, temp);
     let mut i = 0;
     while i < n {
         let x = ahead.x;
+        ahead = filter_on(k, ahead, temp, i);
         filter = ahead.svf;
-        ahead = filter_ahead(k, filter, temp, i + 1);
         temp_2[i] = x;
         aux[i] += x;
-        modes::resonator::tick_frame(
+        quiet = modes::resonator::quiet_at(quiet, &state_1, &state_2, x, i);
+        out[i] = modes::resonator::frame(
+            quiet,
             &g,
             &r_plus_g,
             &h,
             &gain,
             &mut state_1,
             &mut state_2,
-            &mut bands,
             x,
+            out[i],
         );
-        out[i] = modes::resonator::add_batches(out[i], &bands);
         i += 1;
     }
     let after = modes::resonator::filters_of(&state_1, &state_2);

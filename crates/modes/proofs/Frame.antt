@@ -1,7 +1,8 @@
 -- What the loops over the modes store, and a frame of them, as laws over plain values. Assumes nothing.
 use mathlib.Core.Path.{_≡_, refl, sym, _∙_, ap, ap₂, subst}
 use mathlib.Core.List.{List}
-use Prim.Native.Nat.{ℕ, suc, _+_, _-_, _≤_, _<_}
+use mathlib.Core.Bool.{Bool, true, false}
+use Prim.Native.Nat.{ℕ, zero, suc, _+_, _-_, _≤_, _<_}
 use native.Mathlib.Omega.{arith}
 use lib.ListN.{getD, length, set}
 use lib.Ieee.{Float, nan}
@@ -13,7 +14,7 @@ use Rattle.modes.specs.declared.resonator.Ticked.{Ticked}
 use Rattle.modes.specs.declared.resonator.Modes.{Modes}
 use Rattle.modes.specs.declared.resonator.Partial.{Partial}
 use Rattle.modes.specs.Resonator.{tickOf, capOf, frequency, resonance, amplitude}
-use Rattle.modes.specs.OnePass.{Bands, modeIn, stateAt, tickIn, bandsOf, placeOf, placesOf, addBatches, frameOf}
+use Rattle.modes.specs.OnePass.{Bands, modeIn, stateAt, tickIn, bandsOf, placeOf, placesOf, plainOf, addBatches, frameOf}
 
 -- what the loop over the modes stores at a mode, where it stands at p as at p'
 module _ {p p' : Partial} {v : Float} (e : v ≡ capOf (p .harmonic ⊗ p .«stretch_factor»)) (s : p ≡ p') where
@@ -42,7 +43,12 @@ pub record Ticks (k : Modes) (x : Float) (one₀ two₀ bands₀ : List Float) (
   pub second : Stored (λ t. tickIn k one₀ two₀ x t .svf .«state_2») two₀ i two
   pub heard : Stored (λ t. getD (k .gain) t nan ⊗ tickIn k one₀ two₀ x t .bp) bands₀ i bands
 
--- a place more is ticked, and four more
+-- at most four of a row are not tested
+pub plain-le : (low : Bool) (n : ℕ) → n ≡ plainOf low → n ≤ 4
+plain-le true n e = omega (arith, e)
+plain-le false n e = omega (arith, e)
+
+-- a place more is ticked, and n more
 module _ (k : Modes) (x : Float) {one₀ two₀ bands₀ : List Float} (la : length one₀ ≡ 24) (lb : length two₀ ≡ 24) (lc : length bands₀ ≡ 24) where
   ticks-place : (b : Bands) (i : ℕ) → Ticks k x one₀ two₀ bands₀ i (b .«state_1») (b .«state_2») (b .bands) → i < 24
       → Ticks k x one₀ two₀ bands₀ (i + 1) (placeOf k b x i .«state_1») (placeOf k b x i .«state_2») (placeOf k b x i .bands)
@@ -54,19 +60,31 @@ module _ (k : Modes) (x : Float) {one₀ two₀ bands₀ : List Float} (la : len
         heard = stored-turn (u .heard) (omega (arith, lc, l)) (ap (λ (o : Ticked). getD (k .gain) i nan ⊗ o .bp) e);
       }
 
-  pub ticks-four : (b b' : Bands) (i : ℕ) → Ticks k x one₀ two₀ bands₀ i (b .«state_1») (b .«state_2») (b .bands) → i + 4 ≤ 24 → b' ≡ placesOf 4 k b x i
-      → Ticks k x one₀ two₀ bands₀ (i + 4) (b' .«state_1») (b' .«state_2») (b' .bands)
-  ticks-four b b' i u l e =
-      let b₁ = placeOf k b x i in
-      let b₂ = placeOf k b₁ x (i + 1) in
-      let b₃ = placeOf k b₂ x (i + 1 + 1) in
-      let u₁ = ticks-place b i u (omega (arith, l)) in
-      let u₂ = ticks-place b₁ (i + 1) u₁ (omega (arith, l)) in
-      let u₃ = ticks-place b₂ (i + 1 + 1) u₂ (omega (arith, l)) in
-      let u₄ = ticks-place b₃ (i + 1 + 1 + 1) u₃ (omega (arith, l)) in
-      let p : i + 1 + 1 + 1 + 1 ≡ i + 4 = omega arith in
-      subst (λ (c : Bands). Ticks k x one₀ two₀ bands₀ (i + 4) (c .«state_1») (c .«state_2») (c .bands)) (sym e)
-      (subst (λ (n : ℕ). let c = placeOf k b₃ x (i + 1 + 1 + 1) in Ticks k x one₀ two₀ bands₀ n (c .«state_1») (c .«state_2») (c .bands)) p u₄)
+  ticks-on : (n : ℕ) (b : Bands) (i : ℕ) → Ticks k x one₀ two₀ bands₀ i (b .«state_1») (b .«state_2») (b .bands) → i + n ≤ 24
+      → (let c = placesOf n k b x i in Ticks k x one₀ two₀ bands₀ (i + n) (c .«state_1») (c .«state_2») (c .bands))
+  ticks-on zero b i u l =
+      let p : i ≡ i + 0 = omega arith in
+      subst (λ (m : ℕ). Ticks k x one₀ two₀ bands₀ m (b .«state_1») (b .«state_2») (b .bands)) p u
+  ticks-on (suc n) b i u l =
+      let p : i + 1 + n ≡ i + suc n = omega arith in
+      let c = placesOf n k (placeOf k b x i) x (i + 1) in
+      subst (λ (m : ℕ). Ticks k x one₀ two₀ bands₀ m (c .«state_1») (c .«state_2») (c .bands)) p
+      (ticks-on n (placeOf k b x i) (i + 1) (ticks-place b i u (omega (arith, l))) (omega (arith, l)))
+
+  ticks-places : (n : ℕ) (b b' : Bands) (i : ℕ) → Ticks k x one₀ two₀ bands₀ i (b .«state_1») (b .«state_2») (b .bands) → i + n ≤ 24 → b' ≡ placesOf n k b x i
+      → Ticks k x one₀ two₀ bands₀ (i + n) (b' .«state_1») (b' .«state_2») (b' .bands)
+  ticks-places n b b' i u l e = subst (λ (c : Bands). Ticks k x one₀ two₀ bands₀ (i + n) (c .«state_1») (c .«state_2») (c .bands)) (sym e) (ticks-on n b i u l)
+
+  -- a row: those that are not tested, then the others
+  pub ticks-row : (low : Bool) (b b' b'' : Bands) (i n : ℕ) → Ticks k x one₀ two₀ bands₀ i (b .«state_1») (b .«state_2») (b .bands) → i + 6 ≤ 24 → n ≡ plainOf low
+      → b' ≡ placesOf (plainOf low) k b x i → b'' ≡ placesOf (i + 6 - (i + n)) k b' x (i + n)
+      → Ticks k x one₀ two₀ bands₀ (i + 6) (b'' .«state_1») (b'' .«state_2») (b'' .bands)
+  ticks-row low b b' b'' i n u l en e e' =
+      let h = plain-le low n en in
+      let p : i + n + (i + 6 - (i + n)) ≡ i + 6 = omega (arith, h) in
+      let f = e ∙ ap (λ (m : ℕ). placesOf m k b x i) (sym en) in
+      subst (λ (m : ℕ). Ticks k x one₀ two₀ bands₀ m (b'' .«state_1») (b'' .«state_2») (b'' .bands)) p
+      (ticks-places (i + 6 - (i + n)) b' b'' (i + n) (ticks-places n b b' i u (omega (arith, h, l)) f) (omega (arith, h, l)) e')
 
 -- a loop over places, by what is still to do
 pub places-begin : (k : Modes) (b : Bands) (x : Float) (i : ℕ) → placesOf (i + 4 - i) k b x i ≡ placesOf 4 k b x i
@@ -107,3 +125,9 @@ bands-sizes k one two x e = (
 pub framed : {b : Bands} {z : Float} (k : Modes) (one two : List Float) (x y : Float) → b ≡ bandsOf k one two x → z ≡ addBatches y (b .bands)
     → _≡_ {A = (List Float × List Float) × Float} ((b .«state_1», b .«state_2»), z) (frameOf k (one, two) x y)
 framed k one two x y e s = λ j. ((e j .«state_1», e j .«state_2»), (s ∙ ap (λ (b : Bands). addBatches y (b .bands)) e) j)
+
+pub frame-sizes : {one' two' : List Float} {z : Float} (k : Modes) (one two : List Float) (x y : Float)
+    → _≡_ {A = (List Float × List Float) × Float} ((one', two'), z) (frameOf k (one, two) x y) → (length one' ≡ 24) × (length two' ≡ 24)
+frame-sizes k one two x y e =
+    let z = bands-sizes k one two x refl in
+    (ap (λ (q : (List Float × List Float) × Float). length (q .0 .0)) e ∙ z .0, ap (λ (q : (List Float × List Float) × Float). length (q .0 .1)) e ∙ z .1)

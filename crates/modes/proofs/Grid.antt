@@ -5,7 +5,7 @@ use native.Mathlib.Nat.{one-mul, zero-mul, zero-lt-suc, lt-irrefl, le-trans, le-
 use native.Mathlib.Omega.{arith}
 use mathlib.Core.Bool.{Bool, true, false, not, _&&_, _||_, cond, Bool·beq, true≢false, false≢true}
 use lib.IntN.{ℤ, pos, negsuc}
-use lib.Dec.{T, ltb, leb, eqb, ltb→lt, lt→ltb, leb→le, eqb→eq, lit<, lit≤}
+use lib.Dec.{T, ltb, leb, eqb, nltb→le, ltb→lt, lt→ltb, leb→le, eqb→eq, lit<, lit≤}
 use lib.Pow.{pow-add, pow-pos, pow-mono}
 use lib.Ieee.{Float, nan, inf, fin, Format, binary32, binary64, prec, emax, low, up, down, unlike, size, nearest, units, round, sum, add, sub, mul, lt, eq, fits, isNan, ofBits}
 use lib.Ieee.Digits.{size-lt, size-le}
@@ -13,8 +13,9 @@ use lib.Ieee.Fits.{down-pos, up-pos, core, nearest-le, round-is, round-fits, mul
 use lib.Ieee.Exact.{HasValue, units-val, round-exact}
 use lib.Ieee.Nearest.{closest, closest-same}
 use lib.Ieee.Scale.{round-same, finite}
-use Rattle.modes.specs.Subnormal.{zero64, anchorOf, zeroOf, onGrid}
+use Rattle.modes.specs.Subnormal.{zero64, anchor, zeroOf, onGrid}
 use Rattle.modes.proofs.Unique.{same-value, zero-exp}
+use Rattle.modes.proofs.Mirror.{closest-back}
 
 -- ---- a whole even number added to a fraction is added to its nearest whole number
 nearest-shift : (q c : ℕ) (o : Ordering) → nearest (q + 2 * c) o ≡ nearest q o + 2 * c
@@ -48,7 +49,7 @@ no-drop z h = omega arith
 split : (a p q : ℕ) {r : ℕ} → r ≡ p * q → a * r ≡ a * p * q
 split a p q e = ap (λ (x : ℕ). a * x) e ∙ sym (mul-assoc a p q)
 
--- ---- sums and differences with the anchor of a sign
+-- ---- sums and differences with the anchor
 pick : (s : Bool) (a b c : ℕ) → b ≤ a → sum binary64 s a (not s) b c ≡ round binary64 (s && ltb b a) (a - b) c
 unfolding sum
 pick true a b c h = go (ltb a b) (ltb→lt a b)
@@ -62,6 +63,17 @@ pick false a b c h = go (ltb a b) (ltb→lt a b)
     go true k = absurd (not-le-of-lt (k tt) h)
     go false k = refl
 
+pick-under : (a b c : ℕ) → a ≤ b → sum binary64 false a true b c ≡ round binary64 (ltb a b) (b - a) c
+unfolding sum
+pick-under a b c h = go (ltb a b) (nltb→le a b)
+  where
+    go : (t : Bool) → (T (not t) → b ≤ a) → cond t (round binary64 true (b - a) c) (round binary64 false (a - b) c) ≡ round binary64 t (b - a) c
+    go true k = refl
+    go false k = ap (λ (x : ℕ). round binary64 false x c) (same a b h (k tt))
+      where
+        same : (a b : ℕ) → a ≤ b → b ≤ a → a - b ≡ b - a
+        same a b h k = omega arith
+
 opened : (s : Bool) (m : ℕ) (e : ℤ) → sub binary64 (fin s m e) (fin s 3 (negsuc 97)) ≡ sum binary64 s (m * up e * 2 ^ 98) (not s) (3 * 1 * down e) (down e * 2 ^ 98)
 unfolding sub
 opened s m e = refl
@@ -70,6 +82,18 @@ added : (s : Bool) (m : ℕ) (e : ℤ) → add binary64 (fin s m e) (fin s 3 (ne
 unfolding add sum
 added true m e = refl
 added false m e = refl
+
+added-under : (m : ℕ) (e : ℤ) → m * up e * 2 ^ 98 < 3 * 1 * down e
+    → add binary64 (fin true m e) (fin false 3 (negsuc 97)) ≡ round binary64 false (3 * 1 * down e - m * up e * 2 ^ 98) (down e * 2 ^ 98)
+unfolding add sum
+added-under m e h = go (ltb (m * up e * 2 ^ 98) (3 * 1 * down e)) (lt→ltb (m * up e * 2 ^ 98) (3 * 1 * down e) h)
+  where
+    go : (t : Bool) → T t
+        → cond t (round binary64 false (3 * 1 * down e - m * up e * 2 ^ 98) (down e * 2 ^ 98))
+        (round binary64 (ltb (3 * 1 * down e) (m * up e * 2 ^ 98)) (m * up e * 2 ^ 98 - 3 * 1 * down e) (down e * 2 ^ 98))
+        ≡ round binary64 false (3 * 1 * down e - m * up e * 2 ^ 98) (down e * 2 ^ 98)
+    go true k = refl
+    go false k = absurd k
 
 -- ---- a fraction a / d below the least normal f32
 module _ (a d : ℕ) (D : 0 < d) (h : a * 2 ^ 126 < d) where
@@ -148,10 +172,10 @@ module _ (a d : ℕ) (D : 0 < d) (h : a * 2 ^ 126 < d) where
       bound r h = omega arith
 
   -- ---- the anchor taken off again, from a float of that value
-  off : (m : ℕ) (e : ℤ) → m * up e * 2 ^ 1074 ≡ (parts + 2 * (3 * 2 ^ 50)) * 2 ^ 925 * down e → m * up e * 2 ^ 98 * 2 ^ 51 ≡ (parts + 2 * (3 * 2 ^ 50)) * down e
-  off m e v =
-      eq-of-mul-eq-mul-right (2 ^ 925) (pow-pos 925) (m * up e * 2 ^ 98 * 2 ^ 51) ((parts + 2 * (3 * 2 ^ 50)) * down e)
-      (mul-assoc (m * up e * 2 ^ 98) (2 ^ 51) (2 ^ 925) ∙ mul-assoc (m * up e) (2 ^ 98) (2 ^ 51 * 2 ^ 925) ∙ v ∙ mul-right-comm (parts + 2 * (3 * 2 ^ 50)) (2 ^ 925) (down e))
+  off : (q m : ℕ) (e : ℤ) → m * up e * 2 ^ 1074 ≡ q * 2 ^ 925 * down e → m * up e * 2 ^ 98 * 2 ^ 51 ≡ q * down e
+  off q m e v =
+      eq-of-mul-eq-mul-right (2 ^ 925) (pow-pos 925) (m * up e * 2 ^ 98 * 2 ^ 51) (q * down e)
+      (mul-assoc (m * up e * 2 ^ 98) (2 ^ 51) (2 ^ 925) ∙ mul-assoc (m * up e) (2 ^ 98) (2 ^ 51 * 2 ^ 925) ∙ v ∙ mul-right-comm q (2 ^ 925) (down e))
 
   -- what is left of it is the parts, or a zero without a sign
   abbrev Left : Bool → Float → Type 0
@@ -162,7 +186,7 @@ module _ (a d : ℕ) (D : 0 < d) (h : a * 2 ^ 126 < d) where
       let x = m * up e * 2 ^ 98 in
       let y = 3 * 1 * down e in
       let c = down e * 2 ^ 98 in
-      let o = off m e v ∙ add-mul parts (2 * (3 * 2 ^ 50)) (down e) in
+      let o = off (parts + 2 * (3 * 2 ^ 50)) m e v ∙ add-mul parts (2 * (3 * 2 ^ 50)) (down e) in
       let l : y ≤ x = less x (down e) (parts * down e) o in
       let w : (x - y) * 2 ^ 51 ≡ parts * down e = rest x (down e) (parts * down e) o in
       let r : (x - y) * 2 ^ 149 ≡ parts * c = split (x - y) (2 ^ 51) (2 ^ 98) refl ∙ ap (λ (z : ℕ). z * 2 ^ 98) w ∙ mul-assoc parts (down e) (2 ^ 98) in
@@ -208,10 +232,139 @@ module _ (a d : ℕ) (D : 0 < d) (h : a * 2 ^ 126 < d) where
           let r : (a * u + 3 * d) * (f * u) ≡ a * f * (u * u) + 3 * (f * d) * u = simp (add-mul, mul-assoc, mul-comm, mul-left-comm) in
           l ∙ ap (λ (z : ℕ). z * (u * u) + 3 * (f * d) * u) h ∙ sym r
 
-  grid-value : (s : Bool) (p : Float) → HasValue p s a d → Left s (onGrid (fin s 3 (negsuc 97)) p)
-  unfolding onGrid
-  grid-value s p v =
-      from-over s (add binary64 p (fin s 3 (negsuc 97))) (subst (λ (z : Float). HasValue z s ((parts + 2 * (3 * 2 ^ 50)) * 2 ^ 925) (2 ^ 1074)) (sym (to-over s p v)) (over-value s))
+  grid-over : (p : Float) → HasValue p false a d → Left false (onGrid p)
+  unfolding onGrid ofBits
+  grid-over p v =
+      from-over false (add binary64 p (fin false 3 (negsuc 97))) (subst (λ (z : Float). HasValue z false ((parts + 2 * (3 * 2 ^ 50)) * 2 ^ 925) (2 ^ 1074)) (sym (to-over false p v)) (over-value false))
+
+  -- ---- the same, with the fraction taken from the anchor
+  abbrev beneath : ℕ
+  beneath = 3 * d - a * 2 ^ 98
+
+  beneath-size : size (beneath * 2 ^ 1074 / (d * 2 ^ 98)) ≡ 978
+  beneath-size =
+      let Q : 0 < d * 2 ^ 98 = mul-pos D (pow-pos 98) in
+      let lo : 2 ^ 977 * (d * 2 ^ 98) ≤ beneath * 2 ^ 1074 =
+      le-trans (le-of-eq (mul-left-comm (2 ^ 977) d (2 ^ 98) ∙ split d 2 (2 ^ 1074) refl))
+      (mul-le-mul-right (2 ^ 1074) (twice (a * 2 ^ 98) d small)) in
+      let hi : beneath * 2 ^ 1074 < 2 ^ 978 * (d * 2 ^ 98) =
+      lt-of-lt-of-le (mul-lt-mul-of-pos-right (fourth (a * 2 ^ 98) d D) (pow-pos 1074))
+      (le-of-eq (ap (λ (x : ℕ). x * 2 ^ 1074) (mul-comm 4 d) ∙ sym (split d 4 (2 ^ 1074) refl) ∙ sym (mul-left-comm (2 ^ 978) d (2 ^ 98)))) in
+      size-is (beneath * 2 ^ 1074 / (d * 2 ^ 98)) 977 (le-div-iff-mul-le Q .1 lo) (div-lt-iff-lt-mul Q .1 hi)
+    where
+      twice : (x d : ℕ) → x < d → d * 2 ≤ 3 * d - x
+      twice x d h = omega arith
+
+      fourth : (x d : ℕ) → 0 < d → 3 * d - x < 4 * d
+      fourth x d h = omega arith
+
+  beneath-parts : closest (beneath * 2 ^ 1074) (d * 2 ^ 98 * 2 ^ 925) ≡ 2 * (3 * 2 ^ 50) - parts
+  beneath-parts =
+      closest-same (beneath * 2 ^ 1074) (d * 2 ^ 98 * 2 ^ 925) (2 * (3 * 2 ^ 50) * d - a * 2 ^ 149) d (mul-pos (mul-pos D (pow-pos 98)) (pow-pos 925)) D
+      (scale beneath d (2 ^ 98) (2 ^ 51) (2 ^ 925) {t = 2 ^ 1074} refl ∙ ap (λ (z : ℕ). z * (d * 2 ^ 98 * 2 ^ 925)) (sym (rest (a * 2 ^ 98) d (a * 2 ^ 149) (split a (2 ^ 98) (2 ^ 51) refl) small)))
+      ∙ closest-back (a * 2 ^ 149) (3 * 2 ^ 50) d D (less (a * 2 ^ 98) d (a * 2 ^ 149) (split a (2 ^ 98) (2 ^ 51) refl) small)
+    where
+      scale : (z d u v w : ℕ) {t : ℕ} → t ≡ v * (u * w) → z * t * d ≡ z * v * (d * u * w)
+      scale z d u v w et = rw et (simp (mul-assoc, mul-comm, mul-left-comm))
+
+      rest : (y d z : ℕ) → z ≡ y * 2 ^ 51 → y < d → 2 * (3 * 2 ^ 50) * d - z ≡ (3 * d - y) * 2 ^ 51
+      rest y d z e h = omega arith
+
+      less : (y d z : ℕ) → z ≡ y * 2 ^ 51 → y < d → z ≤ 2 * (3 * 2 ^ 50) * d
+      less y d z e h = omega arith
+
+  beneath-value : HasValue (round binary64 false beneath (d * 2 ^ 98)) false ((2 * (3 * 2 ^ 50) - parts) * 2 ^ 925) (2 ^ 1074)
+  beneath-value =
+      let n = beneath * 2 ^ 1074 in
+      let q = 2 * (3 * 2 ^ 50) - parts in
+      let z : size (n / (d * 2 ^ 98)) - 53 ≡ 925 = ap (λ (x : ℕ). x - 53) beneath-size in
+      let e : round binary64 false beneath (d * 2 ^ 98) ≡ units binary64 false q 925 =
+      round-is binary64 false beneath (d * 2 ^ 98) ∙ ap (λ (k : ℕ). core binary64 false n (d * 2 ^ 98) k) z ∙ ap (λ (x : ℕ). units binary64 false x 925) beneath-parts in
+      subst (λ (x : Float). HasValue x false (q * 2 ^ 925) (2 ^ 1074)) (sym e)
+      (units-val binary64 false q 925 (lt-of-le-of-lt (mul-le-mul-right (2 ^ 925) (bound parts)) (lit< tt)))
+    where
+      bound : (r : ℕ) → 2 * (3 * 2 ^ 50) - r ≤ 2 ^ 53
+      bound r = omega arith
+
+  off-under : (m : ℕ) (e : ℤ) → m * up e * 2 ^ 1074 ≡ (2 * (3 * 2 ^ 50) - parts) * 2 ^ 925 * down e → Left true (sub binary64 (fin false m e) (fin false 3 (negsuc 97)))
+  off-under m e v =
+      let x = m * up e * 2 ^ 98 in
+      let y = 3 * 1 * down e in
+      let c = down e * 2 ^ 98 in
+      let q = 2 * (3 * 2 ^ 50) - parts in
+      let o : x * 2 ^ 51 + parts * down e ≡ 2 * (3 * 2 ^ 50) * down e =
+      ap (λ (z : ℕ). z + parts * down e) (off q m e v) ∙ sym (add-mul q parts (down e)) ∙ ap (λ (z : ℕ). z * down e) (filled parts parts-le) in
+      let l : x ≤ y = less x (down e) (parts * down e) o in
+      let w : (y - x) * 2 ^ 51 ≡ parts * down e = rest x (down e) (parts * down e) o in
+      let r : (y - x) * 2 ^ 149 ≡ parts * c = split (y - x) (2 ^ 51) (2 ^ 98) refl ∙ ap (λ (z : ℕ). z * 2 ^ 98) w ∙ mul-assoc parts (down e) (2 ^ 98) in
+      let t = ltb x y in (
+        t,
+        subst (λ (z : Float). HasValue z t parts (2 ^ 149))
+            (sym (opened false m e ∙ pick-under x y c l ∙ round-same binary64 t (y - x) c parts (2 ^ 149) (mul-pos (down-pos e) (pow-pos 98)) (pow-pos 149) r))
+            (round-exact binary64 t parts (2 ^ 149) parts 925 (pow-pos 149) (lt-of-le-of-lt parts-le (lit< tt)) (lt-of-le-of-lt (mul-le-mul-right (2 ^ 925) parts-le) (lit< tt)) (split parts (2 ^ 925) (2 ^ 149) refl)),
+        λ (g : 0 < parts). is-true (ltb x y) (lt→ltb x y (strict x (down e) (parts * down e) o (mul-pos g (down-pos e)))),
+      )
+    where
+      filled : (r : ℕ) → r ≤ 2 ^ 23 → 2 * (3 * 2 ^ 50) - r + r ≡ 2 * (3 * 2 ^ 50)
+      filled r h = omega arith
+
+      less : (x d p : ℕ) → x * 2 ^ 51 + p ≡ 2 * (3 * 2 ^ 50) * d → x ≤ 3 * 1 * d
+      less x d p h = omega arith
+
+      strict : (x d p : ℕ) → x * 2 ^ 51 + p ≡ 2 * (3 * 2 ^ 50) * d → 0 < p → x < 3 * 1 * d
+      strict x d p h g = omega arith
+
+      rest : (x d p : ℕ) → x * 2 ^ 51 + p ≡ 2 * (3 * 2 ^ 50) * d → (3 * 1 * d - x) * 2 ^ 51 ≡ p
+      rest x d p h = omega arith
+
+      is-true : (b : Bool) → T b → b ≡ true
+      is-true true t = refl
+      is-true false t = absurd t
+
+  from-under : (v : Float) → HasValue v false ((2 * (3 * 2 ^ 50) - parts) * 2 ^ 925) (2 ^ 1074) → Left true (sub binary64 v (fin false 3 (negsuc 97)))
+  from-under nan v = absurd v
+  from-under (inf t) v = absurd v
+  from-under (fin t m e) v = subst (λ (b : Bool). Left true (sub binary64 (fin b m e) (fin false 3 (negsuc 97)))) (sym (v .0)) (off-under m e (v .1))
+
+  to-under : (p : Float) → HasValue p true a d → add binary64 p (fin false 3 (negsuc 97)) ≡ round binary64 false beneath (d * 2 ^ 98)
+  to-under nan v = absurd v
+  to-under (inf t) v = absurd v
+  to-under (fin t m e) v =
+      let x = m * up e in
+      let l : x * 2 ^ 98 < down e =
+      lt-of-mul-lt-mul-right d
+      (lt-of-le-of-lt (le-of-eq (mul-right-comm x (2 ^ 98) d ∙ ap (λ (z : ℕ). z * 2 ^ 98) (v .1) ∙ mul-right-comm a (down e) (2 ^ 98)))
+      (lt-of-lt-of-le (mul-lt-mul-of-pos-right small (down-pos e)) (le-of-eq (mul-comm d (down e))))) in
+      ap (λ (b : Bool). add binary64 (fin b m e) (fin false 3 (negsuc 97))) (v .0)
+      ∙ added-under m e (third (x * 2 ^ 98) (down e) l)
+      ∙ round-same binary64 false (3 * 1 * down e - x * 2 ^ 98) (down e * 2 ^ 98) beneath (d * 2 ^ 98) (mul-pos (down-pos e) (pow-pos 98)) (mul-pos D (pow-pos 98))
+      (cross x (down e) a d (2 ^ 98) (3 * 1 * down e - x * 2 ^ 98) beneath (v .1) (filled (x * 2 ^ 98) (down e) l) (filled (a * 2 ^ 98) d small))
+    where
+      third : (x f : ℕ) → x < f → x < 3 * 1 * f
+      third x f h = omega arith
+
+      filled : (x f : ℕ) → x < f → 3 * f ≡ 3 * f - x + x
+      filled x f h = omega arith
+
+      same : (m n y z v w : ℕ) → m ≡ n → m ≡ y + v → n ≡ z + w → v ≡ w → y ≡ z
+      same m n y z v w e f g h = omega arith
+
+      cross : (x f a d u y z : ℕ) → x * d ≡ a * f → 3 * f ≡ y + x * u → 3 * d ≡ z + a * u → y * (d * u) ≡ z * (f * u)
+      cross x f a d u y z h ef ed =
+          let l : 3 * f * d ≡ y * d + x * u * d = ap (λ (n : ℕ). n * d) ef ∙ add-mul y (x * u) d in
+          let r : 3 * d * f ≡ z * f + a * u * f = ap (λ (n : ℕ). n * f) ed ∙ add-mul z (a * u) f in
+          let m : x * u * d ≡ a * u * f = mul-right-comm x u d ∙ ap (λ (n : ℕ). n * u) h ∙ mul-right-comm a f u in
+          let s : y * d ≡ z * f = same (3 * f * d) (3 * d * f) (y * d) (z * f) (x * u * d) (a * u * f) (mul-right-comm 3 f d) l r m in
+          sym (mul-assoc y d u) ∙ ap (λ (n : ℕ). n * u) s ∙ mul-assoc z f u
+
+  grid-under : (p : Float) → HasValue p true a d → Left true (onGrid p)
+  unfolding onGrid ofBits
+  grid-under p v =
+      from-under (add binary64 p (fin false 3 (negsuc 97))) (subst (λ (z : Float). HasValue z false ((2 * (3 * 2 ^ 50) - parts) * 2 ^ 925) (2 ^ 1074)) (sym (to-under p v)) beneath-value)
+
+  grid-value : (s : Bool) (p : Float) → HasValue p s a d → Left s (onGrid p)
+  grid-value false p v = grid-over p v
+  grid-value true p v = grid-under p v
 
 -- ---- a product of two f32 is exact in f64
 -- 2 ^ e as a whole power of two over 2 ^ 537
@@ -407,9 +560,9 @@ rounded x y s a p q v w =
     let e = same-value binary64 x y s a (2 ^ 149) (pow-pos 149) p (fits-widens y q) v w in
     record { same = e; short = and-i (fits binary32 x) (not (isNan x)) (subst (λ (z : Float). T (fits binary32 z)) (sym e) q) (not-nan x s a (2 ^ 149) v) }
 
-grid-fits : (c p : Float) → T (fits binary64 (onGrid c p))
+grid-fits : (p : Float) → T (fits binary64 (onGrid p))
 unfolding onGrid
-grid-fits c p = sub-fits binary64 (add binary64 p c) c
+grid-fits p = sub-fits binary64 (add binary64 p anchor) anchor
 
 zero-value : (s : Bool) (n : ℕ) → n ≡ 0 → HasValue (fin s 0 (pos 0)) s n (2 ^ 149)
 zero-value s n e = (refl, ap (λ (x : ℕ). x * 1) (sym e))
@@ -420,16 +573,8 @@ zero-fits s = tt
 
 -- what the product o is, of p in f64 and w on the grid
 pub record Small (p w o : Float) : Type 0 where
-  pub at-zero : eq w zero64 ≡ true → zeroOf p ≡ o
+  pub at-zero : eq w zero64 ≡ true → (lt zero64 p || lt p zero64) ≡ true → zeroOf p ≡ o
   pub past-zero : eq w zero64 ≡ false → Is w o
-
-anchor-is : (p : Float) (s : Bool) → lt p zero64 ≡ s → anchorOf p ≡ fin s 3 (negsuc 97)
-unfolding anchorOf ofBits
-anchor-is p s e = ap (λ (b : Bool). cond b (fin true 3 (negsuc 97)) (fin false 3 (negsuc 97))) e ∙ go s
-  where
-    go : (s : Bool) → cond s (fin true 3 (negsuc 97)) (fin false 3 (negsuc 97)) ≡ fin s 3 (negsuc 97)
-    go true = refl
-    go false = refl
 
 zero-is : (p : Float) (s : Bool) → lt p zero64 ≡ s → zeroOf p ≡ fin s 0 (pos 0)
 unfolding zeroOf ofBits
@@ -446,43 +591,39 @@ module _ (s u : Bool) (m n : ℕ) (e k : ℤ) (p : T (fits binary32 (fin s m e))
   abbrev shortOf : Float
   shortOf = mul binary32 (fin s m e) (fin u n k)
 
-  finite-small : lt wideOf least ≡ true → lt minusLeast wideOf ≡ true → (lt zero64 wideOf || lt wideOf zero64) ≡ true → Small wideOf (onGrid (anchorOf wideOf) wideOf) shortOf
-  finite-small g h t =
+  finite-small : lt wideOf least ≡ true → lt minusLeast wideOf ≡ true → Small wideOf (onGrid wideOf) shortOf
+  finite-small g h =
       let a = m * up e * (n * up k) in
       let d = down e * down k in
       let D : 0 < d = mul-pos (down-pos e) (down-pos k) in
       let σ = unlike s u in
       let v = product-value s u m n e k p q in
-      let z = sign-is wideOf σ a d v t in
       let l = below-least wideOf σ a d D v g h in
       let r = parts a d D l in
-      let w = onGrid (fin σ 3 (negsuc 97)) wideOf in
+      let w = onGrid wideOf in
       let f = grid-value a d D l σ wideOf v in
       let o = product-least s u m n e k D l in
       let fo = mul-fits binary32 (fin s m e) (fin u n k) in
-      subst (λ (c : Float). Small wideOf (onGrid c wideOf) shortOf) (sym (anchor-is wideOf σ z))
-      (record {
-        at-zero = λ (y : eq w zero64 ≡ true).
-            zero-is wideOf σ z ∙ same-value binary32 (fin σ 0 (pos 0)) shortOf σ r (2 ^ 149) (pow-pos 149) (zero-fits σ) fo (zero-value σ r (eq-zero w (f .0) r (2 ^ 149) (f .1) y)) o;
+      record {
+        at-zero = λ (y : eq w zero64 ≡ true) (t : (lt zero64 wideOf || lt wideOf zero64) ≡ true).
+            zero-is wideOf σ (sign-is wideOf σ a d v t) ∙ same-value binary32 (fin σ 0 (pos 0)) shortOf σ r (2 ^ 149) (pow-pos 149) (zero-fits σ) fo (zero-value σ r (eq-zero w (f .0) r (2 ^ 149) (f .1) y)) o;
         past-zero = λ (y : eq w zero64 ≡ false).
-            rounded w shortOf σ r (grid-fits (fin σ 3 (negsuc 97)) wideOf) fo (subst (λ (b : Bool). HasValue w b r (2 ^ 149)) (f .2 (eq-not w (f .0) r (2 ^ 149) (pow-pos 149) (f .1) y)) (f .1)) o;
-      })
+            rounded w shortOf σ r (grid-fits wideOf) fo (subst (λ (b : Bool). HasValue w b r (2 ^ 149)) (f .2 (eq-not w (f .0) r (2 ^ 149) (pow-pos 149) (f .1) y)) (f .1)) o;
+      }
 
-pub small-product : (x y : Float) → T (fits binary32 x) → T (fits binary32 y)
-    → (lt (mul binary64 x y) least && lt minusLeast (mul binary64 x y)) ≡ true → (lt zero64 (mul binary64 x y) || lt (mul binary64 x y) zero64) ≡ true
-    → Small (mul binary64 x y) (onGrid (anchorOf (mul binary64 x y)) (mul binary64 x y)) (mul binary32 x y)
-small-product x y p q g t =
+pub small-product : (x y : Float) → T (fits binary32 x) → T (fits binary32 y) → (lt (mul binary64 x y) least && lt minusLeast (mul binary64 x y)) ≡ true
+    → Small (mul binary64 x y) (onGrid (mul binary64 x y)) (mul binary32 x y)
+small-product x y p q g =
     let b = both (lt (mul binary64 x y) least) (lt minusLeast (mul binary64 x y)) g in
-    go x y p q (b .0) (b .1) t (finite-is (mul binary64 x y) (b .0) (b .1))
+    go x y p q (b .0) (b .1) (finite-is (mul binary64 x y) (b .0) (b .1))
   where
     go : (x y : Float) → T (fits binary32 x) → T (fits binary32 y) → lt (mul binary64 x y) least ≡ true → lt minusLeast (mul binary64 x y) ≡ true
-        → (lt zero64 (mul binary64 x y) || lt (mul binary64 x y) zero64) ≡ true → T (finite (mul binary64 x y))
-        → Small (mul binary64 x y) (onGrid (anchorOf (mul binary64 x y)) (mul binary64 x y)) (mul binary32 x y)
-    go nan y p q g h t z = absurd (unfold mul in z)
-    go (inf s) y p q g h t z = absurd (endless s y z)
-    go (fin s m e) nan p q g h t z = absurd (unfold mul in z)
-    go (fin s m e) (inf u) p q g h t z = absurd (endless-2 s m e u z)
-    go (fin s m e) (fin u n k) p q g h t z = finite-small s u m n e k p q g h t
+        → T (finite (mul binary64 x y)) → Small (mul binary64 x y) (onGrid (mul binary64 x y)) (mul binary32 x y)
+    go nan y p q g h z = absurd (unfold mul in z)
+    go (inf s) y p q g h z = absurd (endless s y z)
+    go (fin s m e) nan p q g h z = absurd (unfold mul in z)
+    go (fin s m e) (inf u) p q g h z = absurd (endless-2 s m e u z)
+    go (fin s m e) (fin u n k) p q g h z = finite-small s u m n e k p q g h
 
 -- ---- as the function has it
 pub not-false : (b : Bool) → not b ≡ false → b ≡ true
@@ -495,6 +636,6 @@ wide nan y p h = absurd (false≢true h)
 wide (inf s) y p h = and-i (fits binary64 (inf s)) true (fits-widens (inf s) p) tt
 wide (fin s m e) y p h = and-i (fits binary64 (fin s m e)) true (fits-widens (fin s m e) p) tt
 
-pub at-grid : (x y c w : Float) → c ≡ anchorOf (mul binary64 x y) → w ≡ onGrid c (mul binary64 x y)
-    → Small (mul binary64 x y) (onGrid (anchorOf (mul binary64 x y)) (mul binary64 x y)) (mul binary32 x y) → Small (mul binary64 x y) w (mul binary32 x y)
-at-grid x y c w ec ew s = subst (λ (z : Float). Small (mul binary64 x y) z (mul binary32 x y)) (sym (ew ∙ ap (λ (z : Float). onGrid z (mul binary64 x y)) ec)) s
+pub at-grid : (x y w : Float) → w ≡ onGrid (mul binary64 x y)
+    → Small (mul binary64 x y) (onGrid (mul binary64 x y)) (mul binary32 x y) → Small (mul binary64 x y) w (mul binary32 x y)
+at-grid x y w e s = subst (λ (z : Float). Small (mul binary64 x y) z (mul binary32 x y)) (sym e) s

@@ -2,4 +2,5 @@
 pub mod Frame
 pub mod OnePass
 pub mod Unique
+pub mod Mirror
 pub mod Grid

@@ -1,9 +1,11 @@
 -- The one-pass form of Resonator::process: the coefficients of all modes first, then each frame through all modes. What belongs to the mode k of the
 -- batch b stands at the place 6 k + b. Assumes nothing.
+use mathlib.Core.Bool.{Bool, false, not, _&&_, _||_, cond}
 use mathlib.Core.List.{List}
 use Prim.Native.Nat.{ℕ, zero, suc, _+_, _*_, _/_, _%_}
+use lib.Dec.{eqb}
 use lib.ListN.{getD, set}
-use lib.Ieee.{Float, nan}
+use lib.Ieee.{Float, nan, lt}
 use Rattle.ground.specs.F32.{_⊕_, _⊗_, c0, c79·7}
 use Rattle.ground.specs.Frames.{scan, after, tab}
 use Rattle.utils.specs.Utils.{interpolateOf}
@@ -16,6 +18,8 @@ use Rattle.modes.specs.declared.resonator.Partial.{Partial}
 use Rattle.modes.specs.declared.resonator.Tuned.{Tuned}
 use Rattle.modes.specs.declared.resonator.Modes.{Modes}
 use Rattle.modes.specs.declared.resonator.States.{States}
+use Rattle.modes.specs.declared.resonator.Quiet.{Quiet}
+use Rattle.modes.specs.Subnormal.{smallPlus, smallMinus, isSmall}
 use Rattle.modes.specs.Resonator.{modeOf, tickOf, absent, modesIn, nextOf, frequency, resonance, amplitude, compensation, lossOf, firstOf}
 
 -- ---- the coefficients
@@ -126,6 +130,32 @@ placeOf k b x t =
 abbrev pub placesOf : ℕ → Modes → Bands → Float → ℕ → Bands
 placesOf zero k b x t = b
 placesOf (suc n) k b x t = placesOf n k (placeOf k b x t) x (t + 1)
+
+-- whether a mode of four from a place on is small, or of two
+abbrev pub smallFour : List Float → List Float → ℕ → Bool
+smallFour one two t =
+    isSmall (stateAt one two t) || isSmall (stateAt one two (t + 1)) || isSmall (stateAt one two (t + 2)) || isSmall (stateAt one two (t + 3))
+
+abbrev pub smallPair : List Float → List Float → ℕ → Bool
+smallPair one two t = isSmall (stateAt one two t) || isSmall (stateAt one two (t + 1))
+
+-- which batches have small modes, for a sample that is small
+unfoldable pub quietOf : List Float → List Float → Float → Quiet
+quietOf one two x =
+    cond (not (lt x smallPlus && lt smallMinus x))
+    (record { low = false; high = false })
+    (record {
+      low = smallFour one two 0 || smallFour one two 6 || smallFour one two 12 || smallFour one two 18;
+      high = smallPair one two 4 || smallPair one two 10 || smallPair one two 16 || smallPair one two 22;
+    })
+
+-- the same at each 16th frame
+unfoldable pub quietAt : Quiet → List Float → List Float → Float → ℕ → Quiet
+quietAt quiet one two x i = cond (eqb (i % 16) 0) (quietOf one two x) quiet
+
+-- how many modes of a row of six are not tested
+abbrev pub plainOf : Bool → ℕ
+plainOf low = cond low 0 4
 
 -- the sum of the batch b, and all sums added to y in turn
 unfoldable pub batchSum : List Float → ℕ → Float

@@ -3,27 +3,20 @@ use mathlib.Core.Bool.{Bool, _&&_, cond}
 use lib.Ieee.{Float, binary32, binary64, ofBits, add, sub, lt}
 use Rattle.modes.specs.declared.resonator.ResonatorSvf.{ResonatorSvf}
 
--- 3 * 2^-98 and its negative: beside them the digits of an f64 end at 2^-149, the least f32
-abbrev pub anchorPlus : Float
-anchorPlus = ofBits binary64 0x39e8000000000000
-
-abbrev pub anchorMinus : Float
-anchorMinus = ofBits binary64 0xb9e8000000000000
+-- 3 * 2^-98: beside it the digits of an f64 end at 2^-149, the least f32
+abbrev pub anchor : Float
+anchor = ofBits binary64 0x39e8000000000000
 
 abbrev pub zero64 : Float
 zero64 = ofBits binary64 0x0000000000000000
-
--- the one of p's sign
-unfoldable pub anchorOf : Float → Float
-anchorOf p = cond (lt p zero64) anchorMinus anchorPlus
 
 -- the zero of p's sign
 unfoldable pub zeroOf : Float → Float
 zeroOf p = cond (lt p zero64) (ofBits binary32 0x80000000) (ofBits binary32 0x00000000)
 
 -- p rounded to a multiple of the least f32
-unfoldable pub onGrid : Float → Float → Float
-onGrid c p = sub binary64 (add binary64 p c) c
+unfoldable pub onGrid : Float → Float
+onGrid p = sub binary64 (add binary64 p anchor) anchor
 
 -- 1e-35 and -1e-35: what lies between may have subnormal products
 abbrev pub smallPlus : Float

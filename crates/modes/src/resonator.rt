@@ -1,12 +1,11 @@
 // Resonator, taken from Rings' code but with fixed position: 24 modes in six batches of four.
 ghost use mathlib.Core.Path.{_≡_};
-ghost use mathlib.Core.Bool.{_||_};
-ghost use Prim.Native.Nat.{_+_, _<_, _≤_};
+ghost use Prim.Native.Nat.{_+_, _-_, _<_, _≤_};
 ghost use lib.ListN.{length};
 ghost use Rattle.ground.specs.F32.{_⊗_};
 ghost use Rattle.modes.specs.Subnormal.{isSmall};
 ghost use Rattle.modes.specs.Resonator.{svfNew, modeOf, tickOf, lowBlock, filtersNew, resonatorNew, resonatorInit, capOf, shrunk, nextOf, compensation, firstOf, lossOf, processOf};
-ghost use Rattle.modes.specs.OnePass.{tuned, modesOf, modesFor, putBatch, statesOf, stateAt, batchAt, filtersOf, Bands, bandsOf, placesOf, batchSum, addBatches, onePass};
+ghost use Rattle.modes.specs.OnePass.{tuned, modesOf, modesFor, putBatch, statesOf, stateAt, batchAt, filtersOf, Bands, bandsOf, placesOf, smallFour, smallPair, quietOf, quietAt, plainOf, batchSum, addBatches, frameOf, onePass};
 use crate::subnormal::product;
 use utils::filter::FrequencyApproximation;
 
@@ -71,6 +70,12 @@ pub struct Modes {
 pub struct States {
     pub state_1: [f32; 24],
     pub state_2: [f32; 24],
+}
+
+// Whether small modes are among the batches 0 to 3, and among 4 and 5.
+pub struct Quiet {
+    pub low: bool,
+    pub high: bool,
 }
 
 // ---- ResonatorSvf
@@ -140,7 +145,7 @@ pub fn tick(k: Mode, s: ResonatorSvf, x: f32) -> Ticked
 // ---- where numbers may be subnormal
 
 // Whether products of what a mode keeps may be subnormal.
-fn is_small(s: ResonatorSvf) -> bool
+pub fn is_small(s: ResonatorSvf) -> bool
     ensures { λ r. ⌜ r ≡ isSmall s ⌝ }
 {
     (s.state_1 < 1.0e-35) & (s.state_1 > -1.0e-35) & (s.state_2 < 1.0e-35) & (s.state_2 > -1.0e-35)
@@ -163,21 +168,21 @@ fn tick_small(k: Mode, s: ResonatorSvf, x: f32) -> Ticked
     Ticked { svf, bp, lp }
 }
 
-// `tick`; at `quiet` a small mode goes the other way.
-pub fn tick_at(quiet: bool, k: Mode, s: ResonatorSvf, x: f32) -> Ticked
+// The one or the other.
+pub fn tick_at(small: bool, k: Mode, s: ResonatorSvf, x: f32) -> Ticked
     ensures { λ r. ⌜ r ≡ tickOf k s x ⌝ }
 {
-    if quiet & is_small(s) {
+    if small {
         return tick_small(k, s, x);
     }
     tick(k, s, x)
 }
 
-// A gain times a sample; at `quiet` as if it were subnormal.
-pub fn scale(quiet: bool, gain: f32, sample: f32) -> f32
+// A gain times a sample; at `small` as if the product were subnormal.
+pub fn scale(small: bool, gain: f32, sample: f32) -> f32
     ensures { λ r. ⌜ r ≡ gain ⊗ sample ⌝ }
 {
-    if quiet {
+    if small {
         return product(gain, sample);
     }
     gain * sample
@@ -421,12 +426,52 @@ pub fn tick_all(
 // Whether one of four modes from i on is small.
 fn any_small(state_1: &[f32; 24], state_2: &[f32; 24], i: usize) -> bool
     requires { ⌜ i + 4 ≤ 24 ⌝ }
-    ensures { λ r. ⌜ r ≡ (isSmall (stateAt (now («state_1» .entry)) (now («state_2» .entry)) i) || isSmall (stateAt (now («state_1» .entry)) (now («state_2» .entry)) (i + 1)) || isSmall (stateAt (now («state_1» .entry)) (now («state_2» .entry)) (i + 2)) || isSmall (stateAt (now («state_1» .entry)) (now («state_2» .entry)) (i + 3))) ⌝ }
+    ensures { λ r. ⌜ r ≡ smallFour (now («state_1» .entry)) (now («state_2» .entry)) i ⌝ }
 {
     is_small(mode_at(state_1, state_2, i))
         | is_small(mode_at(state_1, state_2, i + 1))
         | is_small(mode_at(state_1, state_2, i + 2))
         | is_small(mode_at(state_1, state_2, i + 3))
+}
+
+// Whether one of two is.
+fn any_pair(state_1: &[f32; 24], state_2: &[f32; 24], i: usize) -> bool
+    requires { ⌜ i + 2 ≤ 24 ⌝ }
+    ensures { λ r. ⌜ r ≡ smallPair (now («state_1» .entry)) (now («state_2» .entry)) i ⌝ }
+{
+    is_small(mode_at(state_1, state_2, i)) | is_small(mode_at(state_1, state_2, i + 1))
+}
+
+// Which batches have small modes, for a sample that is small.
+fn quiet_of(state_1: &[f32; 24], state_2: &[f32; 24], x: f32) -> Quiet
+    ensures { λ r. ⌜ r ≡ quietOf (now («state_1» .entry)) (now («state_2» .entry)) x ⌝ }
+{
+    if !((x < 1.0e-35) & (x > -1.0e-35)) {
+        return Quiet {
+            low: false,
+            high: false,
+        };
+    }
+    Quiet {
+        low: any_small(state_1, state_2, 0)
+            | any_small(state_1, state_2, 6)
+            | any_small(state_1, state_2, 12)
+            | any_small(state_1, state_2, 18),
+        high: any_pair(state_1, state_2, 4)
+            | any_pair(state_1, state_2, 10)
+            | any_pair(state_1, state_2, 16)
+            | any_pair(state_1, state_2, 22),
+    }
+}
+
+// The same at each 16th frame; at the others it stands.
+pub fn quiet_at(quiet: Quiet, state_1: &[f32; 24], state_2: &[f32; 24], x: f32, i: usize) -> Quiet
+    ensures { λ r. ⌜ r ≡ quietAt quiet (now («state_1» .entry)) (now («state_2» .entry)) x i ⌝ }
+{
+    if i % 16 == 0 {
+        return quiet_of(state_1, state_2, x);
+    }
+    quiet
 }
 
 // A sample through four modes from i on.
@@ -465,8 +510,8 @@ fn tick_four(
     }
 }
 
-// The same, where some of them are small.
-fn tick_four_small(
+// A sample through the modes from i on and below `end`, each tested.
+fn tick_each(
     g: &[f32; 24],
     r_plus_g: &[f32; 24],
     h: &[f32; 24],
@@ -476,11 +521,11 @@ fn tick_four_small(
     bands: &mut [f32; 24],
     x: f32,
     i: usize,
+    end: usize,
 )
-    requires { ⌜ i + 4 ≤ 24 ⌝ }
-    ensures { λ _. ⌜ record { «state_1» = now («state_1» .exit); «state_2» = now («state_2» .exit); bands = now (bands .exit) } ≡ placesOf 4 (record { g = now (g .entry); «r_plus_g» = now («r_plus_g» .entry); h = now (h .entry); gain = now (gain .entry) }) (record { «state_1» = now («state_1» .entry); «state_2» = now («state_2» .entry); bands = now (bands .entry) }) x i ⌝ }
+    requires { ⌜ (i ≤ end) × (end ≤ 24) ⌝ }
+    ensures { λ _. ⌜ record { «state_1» = now («state_1» .exit); «state_2» = now («state_2» .exit); bands = now (bands .exit) } ≡ placesOf (end - i) (record { g = now (g .entry); «r_plus_g» = now («r_plus_g» .entry); h = now (h .entry); gain = now (gain .entry) }) (record { «state_1» = now («state_1» .entry); «state_2» = now («state_2» .entry); bands = now (bands .entry) }) x i ⌝ }
 {
-    let end = i + 4;
     let mut j = i;
     while j < end {
         let k = Mode {
@@ -493,16 +538,28 @@ fn tick_four_small(
             state_1: state_1[j],
             state_2: state_2[j],
         };
-        let t = tick_at(true, k, s, x);
+        let small = is_small(s);
+        let t = tick_at(small, k, s, x);
         state_1[j] = t.svf.state_1;
         state_2[j] = t.svf.state_2;
-        bands[j] = scale(true, k.gain, t.bp);
+        bands[j] = scale(small, k.gain, t.bp);
         j += 1;
     }
 }
 
-// The one or the other.
-fn tick_four_at(
+// How many modes of a row of six are not tested.
+fn untested(low: bool) -> usize
+    ensures { λ r. ⌜ r ≡ plainOf low ⌝ }
+{
+    if low {
+        return 0;
+    }
+    4
+}
+
+// A sample through those from i on.
+fn tick_untested(
+    low: bool,
     g: &[f32; 24],
     r_plus_g: &[f32; 24],
     h: &[f32; 24],
@@ -514,17 +571,17 @@ fn tick_four_at(
     i: usize,
 )
     requires { ⌜ i + 4 ≤ 24 ⌝ }
-    ensures { λ _. ⌜ record { «state_1» = now («state_1» .exit); «state_2» = now («state_2» .exit); bands = now (bands .exit) } ≡ placesOf 4 (record { g = now (g .entry); «r_plus_g» = now («r_plus_g» .entry); h = now (h .entry); gain = now (gain .entry) }) (record { «state_1» = now («state_1» .entry); «state_2» = now («state_2» .entry); bands = now (bands .entry) }) x i ⌝ }
+    ensures { λ _. ⌜ record { «state_1» = now («state_1» .exit); «state_2» = now («state_2» .exit); bands = now (bands .exit) } ≡ placesOf (plainOf low) (record { g = now (g .entry); «r_plus_g» = now («r_plus_g» .entry); h = now (h .entry); gain = now (gain .entry) }) (record { «state_1» = now («state_1» .entry); «state_2» = now («state_2» .entry); bands = now (bands .entry) }) x i ⌝ }
 {
-    if any_small(state_1, state_2, i) {
-        tick_four_small(g, r_plus_g, h, gain, state_1, state_2, bands, x, i);
+    if low {
         return;
     }
     tick_four(g, r_plus_g, h, gain, state_1, state_2, bands, x, i);
 }
 
-// `tick_all`, four modes at a time, for a block whose modes have died away in part.
-fn tick_fours(
+// `tick_all`, row by row: the modes of the batches 0 to 3 are tested at `low` only.
+fn tick_rows(
+    low: bool,
     g: &[f32; 24],
     r_plus_g: &[f32; 24],
     h: &[f32; 24],
@@ -537,32 +594,84 @@ fn tick_fours(
     requires { ⌜ (length (now «state_1») ≡ 24) × (length (now «state_2») ≡ 24) × (length (now bands) ≡ 24) ⌝ }
     ensures { λ _. ⌜ record { «state_1» = now («state_1» .exit); «state_2» = now («state_2» .exit); bands = now (bands .exit) } ≡ bandsOf (record { g = now (g .entry); «r_plus_g» = now («r_plus_g» .entry); h = now (h .entry); gain = now (gain .entry) }) (now («state_1» .entry)) (now («state_2» .entry)) x ⌝ }
 {
-    let mut i = 0;
-    while i < 24 {
-        tick_four_at(g, r_plus_g, h, gain, state_1, state_2, bands, x, i);
-        i += 4;
+    let mut t = 0;
+    while t < 24 {
+        tick_untested(low, g, r_plus_g, h, gain, state_1, state_2, bands, x, t);
+        let tested = t + untested(low);
+        tick_each(
+            g,
+            r_plus_g,
+            h,
+            gain,
+            state_1,
+            state_2,
+            bands,
+            x,
+            tested,
+            t + 6,
+        );
+        t += 6;
     }
 }
 
-// A sample through all modes; where it is small, some modes may be too.
-pub fn tick_frame(
+// A frame, none of whose modes is tested.
+fn frame_loud(
     g: &[f32; 24],
     r_plus_g: &[f32; 24],
     h: &[f32; 24],
     gain: &[f32; 24],
     state_1: &mut [f32; 24],
     state_2: &mut [f32; 24],
-    bands: &mut [f32; 24],
     x: f32,
-)
-    requires { ⌜ (length (now «state_1») ≡ 24) × (length (now «state_2») ≡ 24) × (length (now bands) ≡ 24) ⌝ }
-    ensures { λ _. ⌜ record { «state_1» = now («state_1» .exit); «state_2» = now («state_2» .exit); bands = now (bands .exit) } ≡ bandsOf (record { g = now (g .entry); «r_plus_g» = now («r_plus_g» .entry); h = now (h .entry); gain = now (gain .entry) }) (now («state_1» .entry)) (now («state_2» .entry)) x ⌝ }
+    y: f32,
+) -> f32
+    requires { ⌜ (length (now «state_1») ≡ 24) × (length (now «state_2») ≡ 24) ⌝ }
+    ensures { λ r. ⌜ ((now («state_1» .exit), now («state_2» .exit)), r) ≡ frameOf (record { g = now (g .entry); «r_plus_g» = now («r_plus_g» .entry); h = now (h .entry); gain = now (gain .entry) }) (now («state_1» .entry), now («state_2» .entry)) x y ⌝ }
 {
-    if (x < 1.0e-35) & (x > -1.0e-35) {
-        tick_fours(g, r_plus_g, h, gain, state_1, state_2, bands, x);
-        return;
+    let mut bands = [0.0f32; 24];
+    tick_all(g, r_plus_g, h, gain, state_1, state_2, &mut bands, x);
+    add_batches(y, &bands)
+}
+
+// A frame with small modes.
+fn frame_quiet(
+    low: bool,
+    g: &[f32; 24],
+    r_plus_g: &[f32; 24],
+    h: &[f32; 24],
+    gain: &[f32; 24],
+    state_1: &mut [f32; 24],
+    state_2: &mut [f32; 24],
+    x: f32,
+    y: f32,
+) -> f32
+    requires { ⌜ (length (now «state_1») ≡ 24) × (length (now «state_2») ≡ 24) ⌝ }
+    ensures { λ r. ⌜ ((now («state_1» .exit), now («state_2» .exit)), r) ≡ frameOf (record { g = now (g .entry); «r_plus_g» = now («r_plus_g» .entry); h = now (h .entry); gain = now (gain .entry) }) (now («state_1» .entry), now («state_2» .entry)) x y ⌝ }
+{
+    let mut bands = [0.0f32; 24];
+    tick_rows(low, g, r_plus_g, h, gain, state_1, state_2, &mut bands, x);
+    add_batches(y, &bands)
+}
+
+// The one or the other.
+pub fn frame(
+    quiet: Quiet,
+    g: &[f32; 24],
+    r_plus_g: &[f32; 24],
+    h: &[f32; 24],
+    gain: &[f32; 24],
+    state_1: &mut [f32; 24],
+    state_2: &mut [f32; 24],
+    x: f32,
+    y: f32,
+) -> f32
+    requires { ⌜ (length (now «state_1») ≡ 24) × (length (now «state_2») ≡ 24) ⌝ }
+    ensures { λ r. ⌜ ((now («state_1» .exit), now («state_2» .exit)), r) ≡ frameOf (record { g = now (g .entry); «r_plus_g» = now («r_plus_g» .entry); h = now (h .entry); gain = now (gain .entry) }) (now («state_1» .entry), now («state_2» .entry)) x y ⌝ }
+{
+    if quiet.low | quiet.high {
+        return frame_quiet(quiet.low, g, r_plus_g, h, gain, state_1, state_2, x, y);
     }
-    tick_all(g, r_plus_g, h, gain, state_1, state_2, bands, x);
+    frame_loud(g, r_plus_g, h, gain, state_1, state_2, x, y)
 }
 
 // The sum of the batch b.
@@ -597,22 +706,20 @@ fn run_frames(k: Modes, mode_filters: [Batch; 6], in_: &[f32], out: &mut [f32]) 
     let states = states_of(mode_filters);
     let mut state_1 = states.state_1;
     let mut state_2 = states.state_2;
-    let mut bands = [0.0f32; 24];
     let n = utils::min_usize(in_.len(), out.len());
     let mut i = 0;
     while i < n {
         let x = in_[i];
-        tick_all(
+        out[i] = frame_loud(
             &g,
             &r_plus_g,
             &h,
             &gain,
             &mut state_1,
             &mut state_2,
-            &mut bands,
             x,
+            out[i],
         );
-        out[i] = add_batches(out[i], &bands);
         i += 1;
     }
     filters_of(&state_1, &state_2)

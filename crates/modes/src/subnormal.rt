@@ -1,17 +1,7 @@
 // Products that may be subnormal, without the processor's slow path for them.
 ghost use mathlib.Core.Path.{_≡_};
 ghost use Rattle.ground.specs.F32.{_⊗_};
-ghost use Rattle.modes.specs.Subnormal.{anchorOf, zeroOf, onGrid};
-
-// 3 * 2^-98, of p's sign.
-fn anchor_of(p: f64) -> f64
-    ensures { λ r. ⌜ r ≡ anchorOf p ⌝ }
-{
-    if p < 0.0 {
-        return -9.466330862652142e-30;
-    }
-    9.466330862652142e-30
-}
+ghost use Rattle.modes.specs.Subnormal.{zeroOf, onGrid};
 
 // 0, of p's sign.
 fn zero_of(p: f64) -> f32
@@ -23,11 +13,11 @@ fn zero_of(p: f64) -> f32
     0.0
 }
 
-// p rounded to a multiple of the least f32, by an anchor of its sign.
-fn on_grid(c: f64, p: f64) -> f64
-    ensures { λ r. ⌜ r ≡ onGrid c p ⌝ }
+// p rounded to a multiple of the least f32, by an anchor of 3 * 2^-98.
+fn on_grid(p: f64) -> f64
+    ensures { λ r. ⌜ r ≡ onGrid p ⌝ }
 {
-    (p + c) - c
+    (p + 9.466330862652142e-30) - 9.466330862652142e-30
 }
 
 // The product of a and b: where it is subnormal, the product in f64, which is exact, put on the grid.
@@ -41,11 +31,11 @@ pub fn product(a: f32, b: f32) -> f32
     if !((p < 1.1754943508222875e-38) & (p > -1.1754943508222875e-38)) {
         return a * b;
     }
-    if !((p > 0.0) | (p < 0.0)) {
-        return a * b;
-    }
-    let w = on_grid(anchor_of(p), p);
+    let w = on_grid(p);
     if w == 0.0 {
+        if !((p > 0.0) | (p < 0.0)) {
+            return a * b;
+        }
         return zero_of(p);
     }
     w as f32

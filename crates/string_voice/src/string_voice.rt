@@ -180,11 +180,11 @@ fn sound_frames(
     let mut i = 0;
     while i < n {
         let x = ahead.out;
-        ahead = filter_on(ahead, temp, i);
-        filter = ahead.svf;
         temp_2[i] = x;
         aux[i] += x;
         u = waveguide::string::advance(lines, u, shape, p, x);
+        ahead = filter_on(ahead, temp, i);
+        filter = ahead.svf;
         out[i] = waveguide::string::mix(out[i], u.string);
         i += 1;
     }

@@ -19,14 +19,11 @@ float-to-float-p-2 c = wide (c .before .before .before .args .b) (ofBits binary3
 returns-2 : tie.Need-returns-2
 returns-2 c = search needs
 
-returns-3 : tie.Need-returns-3
-returns-3 c = search needs
-
-anchor-of-requires : tie.Need-anchor-of-requires
-anchor-of-requires c κs = search needs
-
 on-grid-requires : tie.Need-on-grid-requires
 on-grid-requires c κs = search needs
+
+returns-3 : tie.Need-returns-3
+returns-3 c = search needs
 
 zero-of-requires : tie.Need-zero-of-requires
 zero-of-requires c κs = search needs
@@ -35,26 +32,24 @@ returns-4 : tie.Need-returns-4
 unfolding ofBits neg
 returns-4 c =
     c .zero-of .ensures
-    ∙ (at-grid (c .before .before .before .before .before .before .before .before .before .args .a) (c .before .before .before .before .before .before .before .before .before .args .b) (c .before .before .before .anchor-of .result) (c .before .before .on-grid .result) (c .before .before .before .anchor-of .ensures) (c .before .before .on-grid .ensures)
-    (small-product (c .before .before .before .before .before .before .before .before .before .args .a) (c .before .before .before .before .before .before .before .before .before .args .b) (c .before .before .before .before .before .before .before .row-known .given) (c .before .before .before .before .before .before .row-known2 .given)
-    (not-false (lt (mul binary64 (c .before .before .before .before .before .before .before .before .before .args .a) (c .before .before .before .before .before .before .before .before .before .args .b)) (ofBits binary64 0x3810000000000000) && lt (ofBits binary64 0xb810000000000000) (mul binary64 (c .before .before .before .before .before .before .before .before .before .args .a) (c .before .before .before .before .before .before .before .before .before .args .b))) (c .before .before .before .before .before .if2 .left))
-    (not-false (lt (ofBits binary64 0x0000000000000000) (mul binary64 (c .before .before .before .before .before .before .before .before .before .args .a) (c .before .before .before .before .before .before .before .before .before .args .b)) || lt (mul binary64 (c .before .before .before .before .before .before .before .before .before .args .a) (c .before .before .before .before .before .before .before .before .before .args .b)) (ofBits binary64 0x0000000000000000)) (c .before .before .before .before .if3 .left)))) .at-zero (c .before .if4 .taken)
+    ∙ (at-grid (c .before .before .before .before .before .before .before .before .args .a) (c .before .before .before .before .before .before .before .before .args .b) (c .before .before .before .on-grid .result) (c .before .before .before .on-grid .ensures)
+    (small-product (c .before .before .before .before .before .before .before .before .args .a) (c .before .before .before .before .before .before .before .before .args .b) (c .before .before .before .before .before .before .row-known .given) (c .before .before .before .before .before .row-known2 .given)
+    (not-false (lt (mul binary64 (c .before .before .before .before .before .before .before .before .args .a) (c .before .before .before .before .before .before .before .before .args .b)) (ofBits binary64 0x3810000000000000) && lt (ofBits binary64 0xb810000000000000) (mul binary64 (c .before .before .before .before .before .before .before .before .args .a) (c .before .before .before .before .before .before .before .before .args .b))) (c .before .before .before .before .if2 .left)))) .at-zero (c .before .before .if3 .taken)
+    (not-false (lt (ofBits binary64 0x0000000000000000) (mul binary64 (c .before .before .before .before .before .before .before .before .args .a) (c .before .before .before .before .before .before .before .before .args .b)) || lt (mul binary64 (c .before .before .before .before .before .before .before .before .args .a) (c .before .before .before .before .before .before .before .before .args .b)) (ofBits binary64 0x0000000000000000)) (c .before .if4 .left))
 
 float-to-float-result : tie.Need-float-to-float-result
 unfolding ofBits neg
 float-to-float-result c =
-    (at-grid (c .before .before .before .before .before .before .before .before .before .args .a) (c .before .before .before .before .before .before .before .before .before .args .b) (c .before .before .before .anchor-of .result) (c .before .before .on-grid .result) (c .before .before .before .anchor-of .ensures) (c .before .before .on-grid .ensures)
-    (small-product (c .before .before .before .before .before .before .before .before .before .args .a) (c .before .before .before .before .before .before .before .before .before .args .b) (c .before .before .before .before .before .before .before .row-known .given) (c .before .before .before .before .before .before .row-known2 .given)
-    (not-false (lt (mul binary64 (c .before .before .before .before .before .before .before .before .before .args .a) (c .before .before .before .before .before .before .before .before .before .args .b)) (ofBits binary64 0x3810000000000000) && lt (ofBits binary64 0xb810000000000000) (mul binary64 (c .before .before .before .before .before .before .before .before .before .args .a) (c .before .before .before .before .before .before .before .before .before .args .b))) (c .before .before .before .before .before .if2 .left))
-    (not-false (lt (ofBits binary64 0x0000000000000000) (mul binary64 (c .before .before .before .before .before .before .before .before .before .args .a) (c .before .before .before .before .before .before .before .before .before .args .b)) || lt (mul binary64 (c .before .before .before .before .before .before .before .before .before .args .a) (c .before .before .before .before .before .before .before .before .before .args .b)) (ofBits binary64 0x0000000000000000)) (c .before .before .before .before .if3 .left)))) .past-zero (c .before .if4 .left) .short
+    (at-grid (c .before .before .before .before .before .before .before .args .a) (c .before .before .before .before .before .before .before .args .b) (c .before .before .on-grid .result) (c .before .before .on-grid .ensures)
+    (small-product (c .before .before .before .before .before .before .before .args .a) (c .before .before .before .before .before .before .before .args .b) (c .before .before .before .before .before .row-known .given) (c .before .before .before .before .row-known2 .given)
+    (not-false (lt (mul binary64 (c .before .before .before .before .before .before .before .args .a) (c .before .before .before .before .before .before .before .args .b)) (ofBits binary64 0x3810000000000000) && lt (ofBits binary64 0xb810000000000000) (mul binary64 (c .before .before .before .before .before .before .before .args .a) (c .before .before .before .before .before .before .before .args .b))) (c .before .before .before .if2 .left)))) .past-zero (c .before .if3 .left) .short
 
 returns-5 : tie.Need-returns-5
 unfolding ofBits neg
 returns-5 c =
-    (at-grid (c .before .before .before .before .before .before .before .before .before .args .a) (c .before .before .before .before .before .before .before .before .before .args .b) (c .before .before .before .anchor-of .result) (c .before .before .on-grid .result) (c .before .before .before .anchor-of .ensures) (c .before .before .on-grid .ensures)
-    (small-product (c .before .before .before .before .before .before .before .before .before .args .a) (c .before .before .before .before .before .before .before .before .before .args .b) (c .before .before .before .before .before .before .before .row-known .given) (c .before .before .before .before .before .before .row-known2 .given)
-    (not-false (lt (mul binary64 (c .before .before .before .before .before .before .before .before .before .args .a) (c .before .before .before .before .before .before .before .before .before .args .b)) (ofBits binary64 0x3810000000000000) && lt (ofBits binary64 0xb810000000000000) (mul binary64 (c .before .before .before .before .before .before .before .before .before .args .a) (c .before .before .before .before .before .before .before .before .before .args .b))) (c .before .before .before .before .before .if2 .left))
-    (not-false (lt (ofBits binary64 0x0000000000000000) (mul binary64 (c .before .before .before .before .before .before .before .before .before .args .a) (c .before .before .before .before .before .before .before .before .before .args .b)) || lt (mul binary64 (c .before .before .before .before .before .before .before .before .before .args .a) (c .before .before .before .before .before .before .before .before .before .args .b)) (ofBits binary64 0x0000000000000000)) (c .before .before .before .before .if3 .left)))) .past-zero (c .before .if4 .left) .same
+    (at-grid (c .before .before .before .before .before .before .before .args .a) (c .before .before .before .before .before .before .before .args .b) (c .before .before .on-grid .result) (c .before .before .on-grid .ensures)
+    (small-product (c .before .before .before .before .before .before .before .args .a) (c .before .before .before .before .before .before .before .args .b) (c .before .before .before .before .before .row-known .given) (c .before .before .before .before .row-known2 .given)
+    (not-false (lt (mul binary64 (c .before .before .before .before .before .before .before .args .a) (c .before .before .before .before .before .before .before .args .b)) (ofBits binary64 0x3810000000000000) && lt (ofBits binary64 0xb810000000000000) (mul binary64 (c .before .before .before .before .before .before .before .args .a) (c .before .before .before .before .before .before .before .args .b))) (c .before .before .before .if2 .left)))) .past-zero (c .before .if3 .left) .same
 
 pub product-spec : {M : Type 1} → statement M
 product-spec =
@@ -64,9 +59,8 @@ product-spec =
     float-to-float-p
     float-to-float-p-2
     returns-2
-    returns-3
-    anchor-of-requires
     on-grid-requires
+    returns-3
     zero-of-requires
     returns-4
     float-to-float-result

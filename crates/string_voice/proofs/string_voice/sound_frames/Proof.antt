@@ -68,34 +68,34 @@ loop-holds c =
       },
     )
 
-filter-on-requires : tie.Need-filter-on-requires Inv-loop μ-loop
-filter-on-requires c κs = let v = c .before .loop .inv in (v .5, omega (arith, v .7 .all, c .loop-test))
-
 mul-temp-2 : tie.Need-mul-temp-2 Inv-loop μ-loop
-mul-temp-2 c = omega (arith, c .before .before .before .loop .inv .7, c .before .before .loop-test)
+mul-temp-2 c = omega (arith, c .before .loop .inv .7, c .loop-test)
 
 slice-write-temp-2 : tie.Need-slice-write-temp-2 Inv-loop μ-loop
-slice-write-temp-2 c = omega (arith, c .before .before .before .loop .inv .7, c .before .before .loop-test)
+slice-write-temp-2 c = omega (arith, c .before .loop .inv .7, c .loop-test)
 
 mul-aux : tie.Need-mul-aux Inv-loop μ-loop
-mul-aux c = omega (arith, c .before .before .before .loop .inv .7, c .before .before .loop-test)
+mul-aux c = omega (arith, c .before .loop .inv .7, c .loop-test)
 
 slice-read-aux : tie.Need-slice-read-aux Inv-loop μ-loop
-slice-read-aux c = omega (arith, c .before .before .before .before .loop .inv .7, c .before .before .before .loop-test)
+slice-read-aux c = omega (arith, c .before .before .loop .inv .7, c .before .loop-test)
 
 slice-write-aux : tie.Need-slice-write-aux Inv-loop μ-loop
-slice-write-aux c = omega (arith, c .before .before .before .before .loop .inv .7, c .before .before .before .loop-test)
+slice-write-aux c = omega (arith, c .before .before .loop .inv .7, c .before .loop-test)
 
 advance-requires : tie.Need-advance-requires Inv-loop μ-loop
 advance-requires c κs =
-    let s = c .before .before .before .before .before .before .before .before .before .before .before .before .before in
+    let s = c .before .before .before .before .before .before .before .before .before .before .before in
     let a = s .args in
-    let b = c .before .before .before .before .before .before .before .begin in
-    let l = c .before .before .before .before .before .loop in (
+    let b = c .before .before .before .before .before .begin in
+    let l = c .before .before .before .loop in (
       frames-good Good (frame-good (a .shape) (a .p)) (begun-good (a .p) (a .v) _ (b .ensures) (now (a .lines)) (s .pre .0)) (l .inv .2),
       l .inv .3,
       omega (arith, l .inv .4, words-to-few (a .shape) (a .p) (b .result .string .«src_phase») (l .i), l .inv .2 .within, l .inv .7 .few, l .inv .7 .out-size),
     )
+
+filter-on-requires : tie.Need-filter-on-requires Inv-loop μ-loop
+filter-on-requires c κs = let v = c .before .before .before .before .before .before .loop .inv in (v .5, omega (arith, v .7 .all, c .before .before .before .before .before .loop-test))
 
 mul-mix : tie.Need-mul-mix Inv-loop μ-loop
 mul-mix c = omega (arith, c .before .before .before .before .before .before .before .before .loop .inv .7, c .before .before .before .before .before .before .before .loop-test)
@@ -130,8 +130,8 @@ loop-again c =
     let lt : l .i < length (now (a .temp)) = omega (arith, z .all, c .before .before .before .before .before .before .before .before .before .loop-test) in
     let within : l .i < min (length (now (a .temp))) (length (now (a .temp-2))) = omega (arith, z, lt) in
     let x = lead-puts nan (v .0) within in
-    let q = c .before .before .before .before .before .before .before .before .filter-on .ensures in
-    let m = c .before .before .before .before .advance .ensures in
+    let q = c .before .before .before .filter-on .ensures in
+    let m = c .before .before .before .before .before .before .advance .ensures in
     let good = begun-good (a .p) (a .v) _ (b .ensures) (now (a .lines)) (s .pre .0) in (
       lead-turn nan (v .0) within (ahead-step (l .ahead .svf) (now (a .temp)) (l .i + 1) (q .0)) (ahead-end (l .ahead .svf) (now (a .temp)) (l .i + 1) (q .0)),
       scan-turn nan nan (v .1) (omega (arith, z, lt)) (ap (λ (x : Float). (tt, getD (l .aux) (l .i) nan ⊕ x)) x),
@@ -186,13 +186,13 @@ sound-frames-spec =
     begin-requires
     filter-first-requires
     loop-holds
-    filter-on-requires
     mul-temp-2
     slice-write-temp-2
     mul-aux
     slice-read-aux
     slice-write-aux
     advance-requires
+    filter-on-requires
     mul-mix
     slice-read-mix
     mix-requires

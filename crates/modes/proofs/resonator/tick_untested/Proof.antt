@@ -1,0 +1,29 @@
+-- `resonator::tick_untested` meets its contract.
+use mathlib.Core.Path.{_∙_, sym, ap}
+use mathlib.Core.Bool.{Bool}
+use denote.Ref.{now}
+use Rattle.modes.specs.declared.resonator.Modes.{Modes}
+use Rattle.modes.specs.OnePass.{Bands, placesOf, plainOf}
+use borrow.Author.Needs.{needs}
+use Rattle.modes.proofs.resonator.tick_untested.Statement.{statement}
+use Rattle.modes.proofs.resonator.tick_untested.Tie as tie
+
+returns : tie.Need-returns
+returns c =
+    let a = c .before .args in
+    let k : Modes = record { g = now (a .g); «r_plus_g» = now (a .r-plus-g); h = now (a .h); gain = now (a .gain) } in
+    let w : Bands = record { «state_1» = now (a .state-1); «state_2» = now (a .state-2); bands = now (a .bands) } in
+    sym (ap (λ (b : Bool). placesOf (plainOf b) k w (a .x) (a .i)) (c .if1 .taken))
+
+tick-four-requires : tie.Need-tick-four-requires
+tick-four-requires c κs = search needs
+
+returns-2 : tie.Need-returns-2
+returns-2 c =
+    let a = c .before .before .before .before .before .args in
+    let k : Modes = record { g = now (a .g); «r_plus_g» = now (a .r-plus-g); h = now (a .h); gain = now (a .gain) } in
+    let w : Bands = record { «state_1» = now (a .state-1); «state_2» = now (a .state-2); bands = now (a .bands) } in
+    c .tick-four .ensures ∙ sym (ap (λ (b : Bool). placesOf (plainOf b) k w (a .x) (a .i)) (c .before .before .before .before .if1 .left))
+
+pub tick-untested-spec : {M : Type 1} → statement M
+tick-untested-spec = tie.close (tie.spec returns tick-four-requires returns-2)
