@@ -11,9 +11,8 @@ use Rattle.ground.specs.Part.{part}
 use Rattle.bank.specs.declared.slots.Slot.{Slot}
 use Rattle.bank.specs.declared.slots.Bank.{Bank}
 use Rattle.claims.specs.Claim.{Each}
-use Rattle.bank_abi.specs.Words.{words, bytes}
-use Rattle.bank_abi.specs.Layout.{SlotF32, decodeSlot, encodeSlot}
-use Rattle.bank_abi.specs.Crossing.{decodeBank, encodeBank, withBytes}
+use Rattle.slot_bytes.specs.Words.{words, bytes}
+use Rattle.slot_bytes.specs.Layout.{SlotF32, decodeSlot, encodeSlot, decodeBank, encodeBank, withBytes}
 
 -- a slot whose numbers have 32 bits
 pub record Numbers (s : Slot) : Type 0 where

@@ -5,12 +5,10 @@ ghost use lib.ListN.{length};
 ghost use Rattle.bank.specs.Slots.{fresh};
 ghost use Rattle.bank.specs.Answers.{noCounts};
 ghost use Rattle.bank.specs.Calls.{opening, reset, render, lent};
-ghost use Rattle.bank_abi.specs.Crossing.{encodeBank, freshDef, Gives};
+ghost use Rattle.slot_bytes.specs.Layout.{encodeBank};
+ghost use Rattle.bank_abi.specs.Crossing.{freshDef, Gives};
 
-pub mod decode;
-pub mod encode;
 pub mod table;
-pub mod words;
 
 use bank::answers::Verdict;
 use noise::excitation::Knobs;
@@ -61,7 +59,7 @@ pub extern "C" fn bleidhvan_open(
         Verdict::Refused(reason) => bank::answers::reason_number(reason),
         Verdict::Accepted => {
             let x = bank::acts::open(lines, slot, kind, sample_rate_hz);
-            crate::encode::put_nth(bytes, slot, x);
+            slot_bytes::encode::put_nth(bytes, slot, x);
             0
         }
     }
@@ -83,9 +81,9 @@ pub extern "C" fn bleidhvan_reset(bytes: &mut [u8], lines: &mut [f32], slot: usi
     match verdict {
         Verdict::Refused(reason) => bank::answers::reason_number(reason),
         Verdict::Accepted => {
-            let x = crate::decode::nth(bytes, slot);
+            let x = slot_bytes::decode::nth(bytes, slot);
             let y = bank::acts::reset(x, lines, slot);
-            crate::encode::put_nth(bytes, slot, y);
+            slot_bytes::encode::put_nth(bytes, slot, y);
             0
         }
     }
@@ -141,10 +139,10 @@ pub extern "C" fn bleidhvan_render(
     match verdict {
         Verdict::Refused(reason) => bank::answers::reason_number(reason),
         Verdict::Accepted => {
-            let x = crate::decode::nth(bytes, slot);
+            let x = slot_bytes::decode::nth(bytes, slot);
             let r = bank::acts::render(x, lines, *word, slot, k, temp, temp_2, out, aux);
             let y = r.slot;
-            crate::encode::put_nth(bytes, slot, y);
+            slot_bytes::encode::put_nth(bytes, slot, y);
             *word = r.word;
             let counts = r.counts;
             *burst = counts.burst;

@@ -3,7 +3,7 @@ use denote.Floats.{passes}
 use Rattle.bank.proofs.Accepted.{ready, alike-lent}
 use Rattle.bank.specs.Calls.{Bufs, render}
 use Rattle.noise.specs.declared.excitation.Knobs.{Knobs}
-use Rattle.bank_abi.specs.Crossing.{decodeBank}
+use Rattle.slot_bytes.specs.Layout.{decodeBank}
 use Rattle.bank.specs.Slots.{slotAt}
 use Rattle.bank_abi.proofs.Crosses.{decided, taken, refused, accepted}
 use mathlib.Core.Path.{ap}

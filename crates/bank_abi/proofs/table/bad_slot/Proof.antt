@@ -1,5 +1,5 @@
 -- `table::bad_slot` meets its contract.
-use Rattle.bank_abi.specs.Layout.{decodeSlot, slotIn, voiceIn, stringIn}
+use Rattle.slot_bytes.specs.Layout.{decodeSlot, slotIn, voiceIn, stringIn}
 use Rattle.bank.specs.World.{badSlot}
 use borrow.Author.Needs.{needs}
 use Rattle.bank_abi.proofs.table.bad_slot.Statement.{statement}
