@@ -8,15 +8,15 @@ use lib.Dec.{eqb}
 use lib.ListN.{length}
 use lib.Ieee.{Float}
 use borrow.Author.Tests.{eqb-true}
-use Rattle.bank.specs.declared.answers.Reason.{Reason}
-use Rattle.bank.specs.declared.answers.Verdict.{Verdict}
-use Rattle.bank.specs.declared.answers.Verdict.the-variants.{Accepted, Refused}
-use Rattle.bank.specs.declared.slots.Slot.{Slot}
-use Rattle.bank.specs.Answers.{noCounts, reasonNumber}
-use Rattle.bank.specs.Slots.{slotAt, withSlot}
-use Rattle.bank.specs.Calls.{Act, lent, Voice, actDef}
-use Rattle.bank.specs.Table.{Call, first, checks, verdict}
-use Rattle.bank.specs.World.{bad, Moved, movedBy, callBy, callDef, linesAt}
+use Rattle.slots.specs.declared.answers.Reason.{Reason}
+use Rattle.slots.specs.declared.answers.Verdict.{Verdict}
+use Rattle.slots.specs.declared.answers.Verdict.the-variants.{Accepted, Refused}
+use Rattle.slots.specs.declared.slots.Slot.{Slot}
+use Rattle.slots.specs.Answers.{noCounts, reasonNumber}
+use Rattle.slots.specs.Slots.{slotAt, withSlot}
+use Rattle.slots.specs.Calls.{Act, lent, Voice, actDef}
+use Rattle.slots.specs.Table.{Call, first, checks, verdict, bad}
+use Rattle.bank.specs.World.{Moved, movedBy, callBy, callDef, linesAt}
 use Rattle.bank.proofs.Accepted.{or-false, Sound, whole, begun}
 use Rattle.ground.proofs.Part.{length-part}
 use Rattle.ground.proofs.Draw.{always-run, draws-always}

@@ -9,7 +9,7 @@ use lib.Dec.{eqb}
 use lib.ListN.{length, take, drop, drop-of-length-le}
 use lib.Seq.{drop-cons}
 use lib.Ieee.{Float}
-use Rattle.bank.specs.World.{badSlot, badSlots, bad}
+use Rattle.slots.specs.Table.{badSlot, badSlots, bad}
 use Rattle.slot_bytes.specs.Layout.{decodeSlot, parts, decodeBank}
 use Rattle.bank_abi.specs.Crossing.{badFlag, badFlags, isBank, badBytes}
 use Rattle.slot_bytes.proofs.Parts.{length-parts, part-at, as-cut}

@@ -7,14 +7,14 @@ use lib.Dec.{eqb, ltb}
 use lib.ListN.{length, getD}
 use lib.Ieee.{Float}
 use Rattle.noise.specs.declared.excitation.Counts.{Counts}
-use Rattle.bank.specs.declared.answers.Reason.the-variants.{Memory}
-use Rattle.bank.specs.declared.answers.Verdict.{Verdict}
-use Rattle.bank.specs.declared.answers.Verdict.the-variants.{Accepted, Refused}
-use Rattle.bank.specs.Answers.{noCounts, reasonNumber, numberOf, countsOf}
-use Rattle.bank.specs.Slots.{fresh, slotAt}
-use Rattle.bank.specs.Calls.{Bufs, lent}
-use Rattle.bank.specs.Table.{Call, verdict}
-use Rattle.bank.specs.World.{World, Event, bad, movedBy, callDef}
+use Rattle.slots.specs.declared.answers.Reason.the-variants.{Memory}
+use Rattle.slots.specs.declared.answers.Verdict.{Verdict}
+use Rattle.slots.specs.declared.answers.Verdict.the-variants.{Accepted, Refused}
+use Rattle.slots.specs.Answers.{noCounts, reasonNumber, numberOf, countsOf}
+use Rattle.slots.specs.Slots.{fresh, slotAt}
+use Rattle.slots.specs.Calls.{Bufs, lent}
+use Rattle.slots.specs.Table.{Call, verdict, bad}
+use Rattle.bank.specs.World.{World, Event, movedBy, callDef}
 use Rattle.slot_bytes.specs.Layout.{parts, decodeBank, encodeBank, withBytes, encodeSlot}
 
 -- making a fresh bank: refused with 1 where the length is another

@@ -2,16 +2,16 @@
 ghost use mathlib.Core.Path.{_≡_};
 ghost use Prim.Native.Nat.{ℕ};
 ghost use lib.ListN.{length};
-ghost use Rattle.bank.specs.Slots.{fresh};
-ghost use Rattle.bank.specs.Answers.{noCounts};
-ghost use Rattle.bank.specs.Calls.{opening, reset, render, lent};
+ghost use Rattle.slots.specs.Slots.{fresh};
+ghost use Rattle.slots.specs.Answers.{noCounts};
+ghost use Rattle.slots.specs.Calls.{opening, reset, render, lent};
 ghost use Rattle.slot_bytes.specs.Layout.{encodeBank};
 ghost use Rattle.bank_abi.specs.Crossing.{freshDef, Gives};
 
 pub mod table;
 
-use bank::answers::Verdict;
 use noise::excitation::Knobs;
+use slots::answers::Verdict;
 
 // The length of a bank in bytes.
 #[no_mangle]
@@ -54,9 +54,9 @@ pub extern "C" fn bleidhvan_open(
     })) ⌝ }
 {
     let bad = crate::table::bad(bytes, lines);
-    let verdict = bank::table::check_open(bad, slot, kind, sample_rate_hz);
+    let verdict = slots::table::check_open(bad, slot, kind, sample_rate_hz);
     match verdict {
-        Verdict::Refused(reason) => bank::answers::reason_number(reason),
+        Verdict::Refused(reason) => slots::answers::reason_number(reason),
         Verdict::Accepted => {
             let x = bank::acts::open(lines, slot, kind, sample_rate_hz);
             slot_bytes::encode::put_nth(bytes, slot, x);
@@ -77,9 +77,9 @@ pub extern "C" fn bleidhvan_reset(bytes: &mut [u8], lines: &mut [f32], slot: usi
 {
     let bad = crate::table::bad(bytes, lines);
     let kind = crate::table::kind_at(bytes, slot);
-    let verdict = bank::table::check_reset(bad, slot, kind);
+    let verdict = slots::table::check_reset(bad, slot, kind);
     match verdict {
-        Verdict::Refused(reason) => bank::answers::reason_number(reason),
+        Verdict::Refused(reason) => slots::answers::reason_number(reason),
         Verdict::Accepted => {
             let x = slot_bytes::decode::nth(bytes, slot);
             let y = bank::acts::reset(x, lines, slot);
@@ -135,9 +135,9 @@ pub extern "C" fn bleidhvan_render(
     };
     let bad = crate::table::bad(bytes, lines);
     let kind = crate::table::kind_at(bytes, slot);
-    let verdict = bank::table::check_render(bad, slot, kind, k, temp, temp_2, out, aux);
+    let verdict = slots::table::check_render(bad, slot, kind, k, temp, temp_2, out, aux);
     match verdict {
-        Verdict::Refused(reason) => bank::answers::reason_number(reason),
+        Verdict::Refused(reason) => slots::answers::reason_number(reason),
         Verdict::Accepted => {
             let x = slot_bytes::decode::nth(bytes, slot);
             let r = bank::acts::render(x, lines, *word, slot, k, temp, temp_2, out, aux);

@@ -6,8 +6,8 @@ use native.Mathlib.Omega.{arith}
 use lib.ListN.{length, getD, List·getD-eq-default, take, drop, set, length-take, length-drop, length-map, take-append-drop}
 use lib.Seq.{take-at, drop-at, take-append-add, drop-append-add, length-take-le, drop-drop}
 use Rattle.ground.specs.Part.{put}
-use Rattle.bank.specs.declared.slots.Slot.{Slot}
-use Rattle.bank.specs.Slots.{emptySlot, slotAt, withSlot}
+use Rattle.slots.specs.declared.slots.Slot.{Slot}
+use Rattle.slots.specs.Slots.{emptySlot, slotAt, withSlot}
 use Rattle.slot_bytes.specs.Words.{words}
 use Rattle.slot_bytes.specs.Layout.{decodeSlot, slotIn, parts, decodeBank, withBytes}
 

@@ -15,8 +15,8 @@ use Rattle.string_voice.specs.declared.string_voice.StringVoice.{StringVoice}
 use Rattle.modes.specs.declared.resonator.ResonatorSvf.{ResonatorSvf}
 use Rattle.modes.specs.declared.resonator.Batch.{Batch}
 use Rattle.modal_voice.specs.declared.modal_voice.ModalVoice.{ModalVoice}
-use Rattle.bank.specs.declared.slots.Slot.{Slot}
-use Rattle.bank.specs.declared.slots.Bank.{Bank}
+use Rattle.slots.specs.declared.slots.Slot.{Slot}
+use Rattle.slots.specs.declared.slots.Bank.{Bank}
 use Rattle.claims.specs.Claim.{Each}
 use Rattle.slot_bytes.specs.Words.{words, bytes, each}
 
