@@ -10,15 +10,15 @@ use lib.Ieee.{Float}
 use borrow.Author.Tests.{eqb-true, eqb-false, ltb-false, leb-false, not-false}
 use Rattle.noise.specs.declared.excitation.Knobs.{Knobs}
 use Rattle.noise.specs.Excitation.{Alike}
-use Rattle.bank.specs.declared.answers.Reason.{Reason}
-use Rattle.bank.specs.declared.answers.Reason.the-variants as R
-use Rattle.bank.specs.declared.answers.Verdict.the-variants.{Accepted}
-use Rattle.bank.specs.declared.slots.Slot.{Slot}
-use Rattle.bank.specs.declared.slots.Bank.{Bank}
-use Rattle.bank.specs.Slots.{noString, emptySlot, slotAt}
-use Rattle.bank.specs.Calls.{Bufs, Act, opening, render}
-use Rattle.bank.specs.Table.{Check, _⇐_, first, alike, checks, knobChecks, verdict}
-use Rattle.bank.specs.World.{badSlot, badSlots, bad, Ready}
+use Rattle.slots.specs.declared.answers.Reason.{Reason}
+use Rattle.slots.specs.declared.answers.Reason.the-variants as R
+use Rattle.slots.specs.declared.answers.Verdict.the-variants.{Accepted}
+use Rattle.slots.specs.declared.slots.Slot.{Slot}
+use Rattle.slots.specs.declared.slots.Bank.{Bank}
+use Rattle.slots.specs.Slots.{noString, emptySlot, slotAt}
+use Rattle.slots.specs.Calls.{Bufs, Act, opening, render}
+use Rattle.slots.specs.Table.{Check, _⇐_, first, alike, checks, knobChecks, verdict, badSlot, badSlots, bad}
+use Rattle.bank.specs.World.{Ready}
 
 true-false : true ≡ false → ⊥
 true-false e = let z : _≡_ {A = ℕ} 0 1 = cc in omega arith

@@ -1,5 +1,4 @@
 -- Laws of the bank.
-pub mod Checks
 pub mod Places
 pub mod Moves
 pub mod Accepted

@@ -15,18 +15,18 @@ use Rattle.string_voice.specs.declared.string_voice.StringVoice.{StringVoice}
 use Rattle.string_voice.specs.StringVoice as string
 use Rattle.modal_voice.specs.declared.modal_voice.ModalVoice.{ModalVoice}
 use Rattle.modal_voice.specs.ModalVoice as modal
-use Rattle.bank.specs.declared.answers.Verdict.{Verdict}
-use Rattle.bank.specs.declared.answers.Verdict.the-variants.{Accepted, Refused}
-use Rattle.bank.specs.declared.answers.Reason.{Reason}
-use Rattle.bank.specs.declared.answers.Answer.the-variants.{Drawn, Refusal}
+use Rattle.slots.specs.declared.answers.Verdict.{Verdict}
+use Rattle.slots.specs.declared.answers.Verdict.the-variants.{Accepted, Refused}
+use Rattle.slots.specs.declared.answers.Reason.{Reason}
+use Rattle.slots.specs.declared.answers.Answer.the-variants.{Drawn, Refusal}
 use Rattle.bank.specs.declared.calls.Opened.{Opened}
-use Rattle.bank.specs.declared.slots.Slot.{Slot}
-use Rattle.bank.specs.declared.slots.Bank.{Bank}
-use Rattle.bank.specs.Answers.{noCounts}
-use Rattle.bank.specs.Slots.{slotAt, withSlot, openedOn}
-use Rattle.bank.specs.Calls.{Act, Bufs, Voice, Done, lent, opening, reset, render, openDef, resetDef, stringDef, modalDef, renderDef, actDef}
-use Rattle.bank.specs.Table.{Call, verdict}
-use Rattle.bank.specs.World.{World, linesAt, withLines, bad, Left, leftOf, Moved, movedBy, callBy, callDef}
+use Rattle.slots.specs.declared.slots.Slot.{Slot}
+use Rattle.slots.specs.declared.slots.Bank.{Bank}
+use Rattle.slots.specs.Answers.{noCounts}
+use Rattle.slots.specs.Slots.{slotAt, withSlot, openedOn}
+use Rattle.slots.specs.Calls.{Act, Bufs, Voice, Done, lent, opening, reset, render, openDef, resetDef, stringDef, modalDef, renderDef, actDef}
+use Rattle.slots.specs.Table.{Call, verdict, bad}
+use Rattle.bank.specs.World.{World, linesAt, withLines, Left, leftOf, Moved, movedBy, callBy, callDef}
 
 -- ---- by the table's word
 

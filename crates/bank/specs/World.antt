@@ -1,23 +1,21 @@
 -- The bank, the generator's word and line memory: what a call makes of them, and a list of calls. Assumes nothing.
-use mathlib.Core.Bool.{Bool, false, not, _||_}
 use mathlib.Core.List.{List, [], _∷_}
 use mathlib.Core.Path.{_≡_}
 use Prim.Native.Nat.{ℕ, _*_, _<_, _≤_}
-use lib.Dec.{eqb, leb, ltb}
 use lib.ListN.{length}
 use lib.Ieee.{Float}
 use Rattle.ground.specs.Draw.{value, ending, words}
 use Rattle.ground.specs.Part.{part, put}
-use Rattle.bank.specs.declared.slots.Slot.{Slot}
-use Rattle.bank.specs.declared.slots.Bank.{Bank}
-use Rattle.bank.specs.declared.answers.Verdict.{Verdict}
-use Rattle.bank.specs.declared.answers.Verdict.the-variants.{Accepted, Refused}
-use Rattle.bank.specs.declared.answers.Answer.{Answer}
-use Rattle.bank.specs.declared.answers.Answer.the-variants.{Drawn, Refusal}
-use Rattle.bank.specs.Slots.{fresh, slotAt, withSlot}
+use Rattle.slots.specs.declared.slots.Slot.{Slot}
+use Rattle.slots.specs.declared.slots.Bank.{Bank}
+use Rattle.slots.specs.declared.answers.Verdict.{Verdict}
+use Rattle.slots.specs.declared.answers.Verdict.the-variants.{Accepted, Refused}
+use Rattle.slots.specs.declared.answers.Answer.{Answer}
+use Rattle.slots.specs.declared.answers.Answer.the-variants.{Drawn, Refusal}
+use Rattle.slots.specs.Slots.{fresh, slotAt, withSlot}
 use Rattle.noise.specs.declared.excitation.Counts.{Counts}
-use Rattle.bank.specs.Calls.{Act, Bufs, lent, Voice, actDef}
-use Rattle.bank.specs.Table.{Call, verdict}
+use Rattle.slots.specs.Calls.{Act, Bufs, lent, Voice, actDef}
+use Rattle.slots.specs.Table.{Call, bad, verdict}
 
 pub record World : Type 0 where
   pub bank : Bank
@@ -37,18 +35,6 @@ withLines s new mem = put (1280 * s) 1280 new mem
 
 abbrev pub voiceAt : ℕ → World → Voice
 voiceAt s w = record { slot = slotAt (w .bank) s; lines = linesAt s (w .mem) }
-
--- number 1: of any slot, a kind above 2, a write place beyond its line, or left above 1,048,576
-unfoldable pub badSlot : Slot → Bool
-badSlot x = ltb 2 (x .kind) || leb 1024 (x .string .string .string) || leb 256 (x .string .string .stretch) || ltb 1048576 (x .string .«remaining_noise_samples»)
-
-unfoldable pub badSlots : List Slot → Bool
-badSlots [] = false
-badSlots (x ∷ xs) = badSlot x || badSlots xs
-
--- or line memory that is not 10,240 numbers
-unfoldable pub bad : Bank → List Float → Bool
-bad b mem = not (eqb (length mem) 10240) || badSlots (b .slots)
 
 -- a call made: the world before and after it, its answer, the buffers after it, and the words that its draws gave
 pub record Event : Type 0 where

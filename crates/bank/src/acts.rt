@@ -4,13 +4,13 @@ ghost use Prim.Native.Nat.{ℕ, _<_};
 ghost use mathlib.Core.List.{List};
 ghost use lib.ListN.{length};
 ghost use lib.Ieee.{Float};
-ghost use Rattle.bank.specs.Answers.{noCounts};
-ghost use Rattle.bank.specs.Calls.{opening, reset, render, lent};
+ghost use Rattle.slots.specs.Answers.{noCounts};
+ghost use Rattle.slots.specs.Calls.{opening, reset, render, lent};
 ghost use Rattle.noise.specs.Excitation.{Alike};
 ghost use Rattle.bank.specs.World.{movedBy, Ready};
-use crate::slots::Slot;
 use noise::excitation::Counts;
 use noise::excitation::Knobs;
+use slots::slots::Slot;
 
 // A slot after a render, the generator's word, and the words drawn.
 pub struct Acted {
@@ -27,7 +27,7 @@ pub fn open(lines: &mut [f32], slot: usize, kind: u32, sample_rate_hz: f32) -> S
 {
     let base = 1280 * slot;
     let end = base + 1280;
-    crate::slots::opened(kind, sample_rate_hz, &mut lines[base..end])
+    slots::slots::opened(kind, sample_rate_hz, &mut lines[base..end])
 }
 
 // A reset of a string.

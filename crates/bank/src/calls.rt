@@ -1,15 +1,15 @@
 // The calls of the bank: any bank, any lengths, any numbers.
 ghost use mathlib.Core.Path.{_≡_};
 ghost use Prim.Native.Nat.{ℕ};
-ghost use Rattle.bank.specs.declared.answers.Answer.the-variants.{Drawn};
-ghost use Rattle.bank.specs.Answers.{noCounts};
-ghost use Rattle.bank.specs.Calls.{opening, reset, render, lent};
+ghost use Rattle.slots.specs.declared.answers.Answer.the-variants.{Drawn};
+ghost use Rattle.slots.specs.Answers.{noCounts};
+ghost use Rattle.slots.specs.Calls.{opening, reset, render, lent};
 ghost use Rattle.bank.specs.World.{leftOf, callDef};
-use crate::answers::Answer;
-use crate::answers::Verdict;
-use crate::slots::Bank;
 use noise::excitation::Counts;
 use noise::excitation::Knobs;
+use slots::answers::Answer;
+use slots::answers::Verdict;
+use slots::slots::Bank;
 
 // The bank after an opening or a reset, and the answer.
 pub struct Opened {
@@ -44,8 +44,8 @@ pub fn open(bank: Bank, lines: &mut [f32], slot: usize, kind: u32, sample_rate_h
     ensures { λ r. ⌜ ((w : ℕ) → leftOf (callDef (record { bank = bank; word = w; mem = now (lines .entry) }) (record { slot = slot; act = opening kind «sample_rate_hz» }))
         ≡ record { answer = r .answer; after = record { bank = r .bank; word = w; mem = now (lines .exit) }; bufs = lent (opening kind «sample_rate_hz») }) ⌝ }
 {
-    let bad = crate::table::bad(bank, lines);
-    let verdict = crate::table::check_open(bad, slot, kind, sample_rate_hz);
+    let bad = slots::table::bad(bank, lines);
+    let verdict = slots::table::check_open(bad, slot, kind, sample_rate_hz);
     match verdict {
         Verdict::Refused(reason) => Opened {
             bank,
@@ -53,7 +53,7 @@ pub fn open(bank: Bank, lines: &mut [f32], slot: usize, kind: u32, sample_rate_h
         },
         Verdict::Accepted => {
             let x = crate::acts::open(lines, slot, kind, sample_rate_hz);
-            let after = crate::slots::with_slot(bank, slot, x);
+            let after = slots::slots::with_slot(bank, slot, x);
             drawn_none(after)
         }
     }
@@ -64,18 +64,18 @@ pub fn reset(bank: Bank, lines: &mut [f32], slot: usize) -> Opened
     ensures { λ r. ⌜ ((w : ℕ) → leftOf (callDef (record { bank = bank; word = w; mem = now (lines .entry) }) (record { slot = slot; act = reset }))
         ≡ record { answer = r .answer; after = record { bank = r .bank; word = w; mem = now (lines .exit) }; bufs = lent reset }) ⌝ }
 {
-    let bad = crate::table::bad(bank, lines);
-    let held = crate::slots::kind_at(bank, slot);
-    let verdict = crate::table::check_reset(bad, slot, held);
+    let bad = slots::table::bad(bank, lines);
+    let held = slots::slots::kind_at(bank, slot);
+    let verdict = slots::table::check_reset(bad, slot, held);
     match verdict {
         Verdict::Refused(reason) => Opened {
             bank,
             answer: Answer::Refusal(reason),
         },
         Verdict::Accepted => {
-            let x = crate::slots::slot_at(bank, slot);
+            let x = slots::slots::slot_at(bank, slot);
             let y = crate::acts::reset(x, lines, slot);
-            let after = crate::slots::with_slot(bank, slot, y);
+            let after = slots::slots::with_slot(bank, slot, y);
             drawn_none(after)
         }
     }
@@ -102,9 +102,9 @@ pub fn render(
       bufs = record { temp = now (temp .exit); temp2 = now («temp_2» .exit); out = now (out .exit); aux = now (aux .exit) };
     } ⌝ }
 {
-    let bad = crate::table::bad(bank, lines);
-    let held = crate::slots::kind_at(bank, slot);
-    let verdict = crate::table::check_render(bad, slot, held, k, temp, temp_2, out, aux);
+    let bad = slots::table::bad(bank, lines);
+    let held = slots::slots::kind_at(bank, slot);
+    let verdict = slots::table::check_render(bad, slot, held, k, temp, temp_2, out, aux);
     match verdict {
         Verdict::Refused(reason) => Rendered {
             bank,
@@ -112,10 +112,10 @@ pub fn render(
             answer: Answer::Refusal(reason),
         },
         Verdict::Accepted => {
-            let x = crate::slots::slot_at(bank, slot);
+            let x = slots::slots::slot_at(bank, slot);
             let r = crate::acts::render(x, lines, word, slot, k, temp, temp_2, out, aux);
             let y = r.slot;
-            let after = crate::slots::with_slot(bank, slot, y);
+            let after = slots::slots::with_slot(bank, slot, y);
             let counts = r.counts;
             Rendered {
                 bank: after,

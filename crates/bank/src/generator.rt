@@ -1,12 +1,12 @@
 // The one generator, lent to whichever voice is rendering.
 ghost use mathlib.Core.Path.{_≡_};
 ghost use Rattle.ground.specs.Draw.{next};
-ghost use Rattle.bank.specs.Calls.{Bufs, render};
-ghost use Rattle.bank.specs.Table.{Call};
+ghost use Rattle.slots.specs.Calls.{Bufs, render};
+ghost use Rattle.slots.specs.Table.{Call};
 ghost use Rattle.bank.specs.World.{World, Left, leftOf, callDef};
 use crate::calls::Rendered;
-use crate::slots::Bank;
 use noise::excitation::Knobs;
+use slots::slots::Bank;
 
 pub struct Generator {
     pub word: u32,

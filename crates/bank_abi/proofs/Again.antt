@@ -15,14 +15,13 @@ use Rattle.ground.specs.Frames.{tab}
 use Rattle.ground.specs.Part.{part}
 use Rattle.ground.proofs.Tab.{tab-getD}
 use Rattle.ground.proofs.Part.{part-put-below, part-put-above}
-use Rattle.bank.specs.declared.slots.Slot.{Slot}
+use Rattle.slots.specs.declared.slots.Slot.{Slot}
 use Rattle.claims.specs.Claim.{Each}
-use Rattle.bank_abi.specs.Words.{wordOf, words, bytes, each}
-use Rattle.bank_abi.specs.Layout.{SlotF32, bits, svfIn, dcIn, stringIn, voiceIn, modeIn, batchIn, modalIn, slotIn, decodeSlot, svfWords, dcWords, stringWords, voiceWords, modeWords, batchWords, floatWords, modalWords, slotWords, flagOf, encodeSlot}
-use Rattle.bank_abi.specs.Crossing.{parts, decodeBank, encodeBank, withBytes}
+use Rattle.slot_bytes.specs.Words.{wordOf, words, bytes, each}
+use Rattle.slot_bytes.specs.Layout.{SlotF32, bits, svfIn, dcIn, stringIn, voiceIn, modeIn, batchIn, modalIn, slotIn, decodeSlot, svfWords, dcWords, stringWords, voiceWords, modeWords, batchWords, floatWords, modalWords, slotWords, flagOf, encodeSlot, parts, decodeBank, encodeBank, withBytes}
 use Rattle.bank_abi.specs.Claims.{Numbers, DecodeEncodeBank, isNumber, kept, EncodeDecode, Words, Untouched}
 use Rattle.ground.proofs.Nans.{is-nan}
-use Rattle.bank_abi.proofs.Little.{length-slot-bytes}
+use Rattle.slot_bytes.proofs.Little.{length-slot-bytes}
 use Rattle.bank_abi.proofs.Back.{Small, tab-same, decode-encode}
 
 -- ---- a float's word

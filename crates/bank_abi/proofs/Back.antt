@@ -17,12 +17,12 @@ use Rattle.utils.specs.declared.filter.DcBlocker.{DcBlocker}
 use Rattle.waveguide.specs.declared.string.String.{String}
 use Rattle.modes.specs.declared.resonator.ResonatorSvf.{ResonatorSvf}
 use Rattle.modes.specs.declared.resonator.Batch.{Batch}
-use Rattle.bank.specs.declared.slots.Slot.{Slot}
+use Rattle.slots.specs.declared.slots.Slot.{Slot}
 use Rattle.claims.specs.Claim.{Each}
-use Rattle.bank_abi.specs.Words.{wordOf, words, bytes, each}
-use Rattle.bank_abi.specs.Layout.{F32, SvfF32, DcF32, StringF32, ModeF32, BatchF32, SlotF32, floatIn, svfIn, dcIn, stringIn, voiceIn, modeIn, batchIn, modalIn, slotIn, decodeSlot, bits, svfWords, dcWords, stringWords, voiceWords, modeWords, batchWords, floatWords, modalWords, slotWords, flagOf, encodeSlot}
+use Rattle.slot_bytes.specs.Words.{wordOf, words, bytes, each}
+use Rattle.slot_bytes.specs.Layout.{F32, SvfF32, DcF32, StringF32, ModeF32, BatchF32, SlotF32, floatIn, svfIn, dcIn, stringIn, voiceIn, modeIn, batchIn, modalIn, slotIn, decodeSlot, bits, svfWords, dcWords, stringWords, voiceWords, modeWords, batchWords, floatWords, modalWords, slotWords, flagOf, encodeSlot}
 use Rattle.bank_abi.specs.Claims.{Numbers, DecodeEncode}
-use Rattle.bank_abi.proofs.Little.{length-bytes, length-floats, length-slot}
+use Rattle.slot_bytes.proofs.Little.{length-bytes, length-floats, length-slot}
 
 -- ---- the words of the bytes of words
 

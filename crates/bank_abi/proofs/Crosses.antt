@@ -8,29 +8,27 @@ use lib.Dec.{eqb}
 use lib.ListN.{length}
 use lib.Ieee.{Float}
 use borrow.Author.Tests.{eqb-true}
-use Rattle.bank.specs.declared.answers.Reason.{Reason}
-use Rattle.bank.specs.declared.answers.Verdict.{Verdict}
-use Rattle.bank.specs.declared.answers.Verdict.the-variants.{Accepted, Refused}
-use Rattle.bank.specs.declared.slots.Slot.{Slot}
-use Rattle.bank.specs.Answers.{noCounts, reasonNumber}
-use Rattle.bank.specs.Slots.{slotAt, withSlot}
-use Rattle.bank.specs.Calls.{Act, lent}
-use Rattle.bank.specs.Table.{Call, first, checks, verdict}
-use Rattle.bank.specs.World.{bad, Moved, movedBy, callBy, callDef}
+use Rattle.slots.specs.declared.answers.Reason.{Reason}
+use Rattle.slots.specs.declared.answers.Verdict.{Verdict}
+use Rattle.slots.specs.declared.answers.Verdict.the-variants.{Accepted, Refused}
+use Rattle.slots.specs.declared.slots.Slot.{Slot}
+use Rattle.slots.specs.Answers.{noCounts, reasonNumber}
+use Rattle.slots.specs.Slots.{slotAt, withSlot}
+use Rattle.slots.specs.Calls.{Act, lent, Voice, actDef}
+use Rattle.slots.specs.Table.{Call, first, checks, verdict, bad}
+use Rattle.bank.specs.World.{Moved, movedBy, callBy, callDef, linesAt}
 use Rattle.bank.proofs.Accepted.{or-false, Sound, whole, begun}
 use Rattle.ground.proofs.Part.{length-part}
 use Rattle.ground.proofs.Draw.{always-run, draws-always}
-use Rattle.bank.specs.Calls.{Voice, actDef}
-use Rattle.bank.specs.World.{linesAt}
 use Rattle.claims.specs.Claim.{InF32}
 use Rattle.claims.specs.Ledger.{entry}
 use Rattle.claims.proofs.Acts.{Ok, Follows, led-of, act-law}
-use Rattle.bank_abi.proofs.Parts.{bank-after}
-use Rattle.bank_abi.proofs.Little.{length-slot-bytes}
+use Rattle.slot_bytes.proofs.Parts.{bank-after}
+use Rattle.slot_bytes.proofs.Little.{length-slot-bytes}
 use Rattle.bank_abi.proofs.Back.{decode-encode}
-use Rattle.bank_abi.specs.Layout.{SlotF32, encodeSlot}
+use Rattle.slot_bytes.specs.Layout.{SlotF32, encodeSlot, parts, decodeBank, withBytes}
 use Rattle.bank_abi.specs.Claims.{Numbers}
-use Rattle.bank_abi.specs.Crossing.{parts, decodeBank, badFlags, isBank, badBytes, withBytes, Crossing, worldOf, crossBy, crossDef, numbersOf, decoded, Gives}
+use Rattle.bank_abi.specs.Crossing.{badFlags, isBank, badBytes, Crossing, worldOf, crossBy, crossDef, numbersOf, decoded, Gives}
 
 -- ---- what number 1 leaves of the bytes
 

@@ -1,6 +1,5 @@
--- Laws of the bytes.
-pub mod Little
-pub mod Parts
+-- Laws of the bytes of a bank.
+pub mod NumberOne
 pub mod Back
 pub mod Again
 pub mod Crosses

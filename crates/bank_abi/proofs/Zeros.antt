@@ -11,11 +11,11 @@ use Rattle.ground.specs.Frames.{tab}
 use Rattle.utils.specs.Filter.{svfNew, dcInit}
 use Rattle.modes.specs.Resonator.{svfNew as modeNew, filtersNew, resonatorNew}
 use Rattle.modal_voice.specs.ModalVoice.{voiceNew}
-use Rattle.bank.specs.declared.slots.Slot.{Slot}
-use Rattle.bank.specs.Slots.{noString, emptySlot, fresh}
-use Rattle.bank_abi.specs.Words.{bytes, each}
-use Rattle.bank_abi.specs.Layout.{svfWords, dcWords, stringWords, voiceWords, modeWords, batchWords, floatWords, modalWords, slotWords, encodeSlot}
-use Rattle.bank_abi.specs.Crossing.{encodeBank, freshDef}
+use Rattle.slots.specs.declared.slots.Slot.{Slot}
+use Rattle.slots.specs.Slots.{noString, emptySlot, fresh}
+use Rattle.slot_bytes.specs.Words.{bytes, each}
+use Rattle.slot_bytes.specs.Layout.{svfWords, dcWords, stringWords, voiceWords, modeWords, batchWords, floatWords, modalWords, slotWords, encodeSlot, encodeBank}
+use Rattle.bank_abi.specs.Crossing.{freshDef}
 
 abbrev pub none : ℕ → ℕ
 none i = 0

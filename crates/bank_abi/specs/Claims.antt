@@ -8,12 +8,11 @@ use lib.ListN.{length, getD}
 use lib.Ieee.{binary32, nanBits}
 use Rattle.ground.specs.Frames.{tab}
 use Rattle.ground.specs.Part.{part}
-use Rattle.bank.specs.declared.slots.Slot.{Slot}
-use Rattle.bank.specs.declared.slots.Bank.{Bank}
+use Rattle.slots.specs.declared.slots.Slot.{Slot}
+use Rattle.slots.specs.declared.slots.Bank.{Bank}
 use Rattle.claims.specs.Claim.{Each}
-use Rattle.bank_abi.specs.Words.{words, bytes}
-use Rattle.bank_abi.specs.Layout.{SlotF32, decodeSlot, encodeSlot}
-use Rattle.bank_abi.specs.Crossing.{decodeBank, encodeBank, withBytes}
+use Rattle.slot_bytes.specs.Words.{words, bytes}
+use Rattle.slot_bytes.specs.Layout.{SlotF32, decodeSlot, encodeSlot, decodeBank, encodeBank, withBytes}
 
 -- a slot whose numbers have 32 bits
 pub record Numbers (s : Slot) : Type 0 where

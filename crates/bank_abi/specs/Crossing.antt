@@ -1,35 +1,21 @@
 -- The calls on a bank that crosses as bytes: eight slots one after the other. Assumes nothing.
 use mathlib.Core.Bool.{Bool, true, false, not, _&&_, _||_, cond}
-use mathlib.Core.List.{List, [], _∷_, map}
+use mathlib.Core.List.{List, [], _∷_}
 use mathlib.Core.Path.{_≡_}
-use Prim.Native.Nat.{ℕ, zero, suc, _*_}
+use Prim.Native.Nat.{ℕ}
 use lib.Dec.{eqb, ltb}
-use lib.ListN.{length, getD, take, drop}
+use lib.ListN.{length, getD}
 use lib.Ieee.{Float}
-use Rattle.ground.specs.Part.{put}
 use Rattle.noise.specs.declared.excitation.Counts.{Counts}
-use Rattle.bank.specs.declared.slots.Bank.{Bank}
-use Rattle.bank.specs.declared.answers.Reason.the-variants.{Memory}
-use Rattle.bank.specs.declared.answers.Verdict.{Verdict}
-use Rattle.bank.specs.declared.answers.Verdict.the-variants.{Accepted, Refused}
-use Rattle.bank.specs.Answers.{noCounts, reasonNumber, numberOf, countsOf}
-use Rattle.bank.specs.Slots.{fresh, slotAt}
-use Rattle.bank.specs.Calls.{Bufs, lent}
-use Rattle.bank.specs.Table.{Call, verdict}
-use Rattle.bank.specs.World.{World, Event, bad, movedBy, callDef}
-use Rattle.bank_abi.specs.Words.{each}
-use Rattle.bank_abi.specs.Layout.{decodeSlot, encodeSlot}
-
--- the bytes of n slots
-unfoldable pub parts : ℕ → List ℕ → List (List ℕ)
-parts zero bs = []
-parts (suc n) bs = take 393 bs ∷ parts n (drop 393 bs)
-
-unfoldable pub decodeBank : List ℕ → Bank
-decodeBank bs = record { slots = map decodeSlot (parts 8 bs) }
-
-unfoldable pub encodeBank : Bank → List ℕ
-encodeBank b = each encodeSlot (b .slots)
+use Rattle.slots.specs.declared.answers.Reason.the-variants.{Memory}
+use Rattle.slots.specs.declared.answers.Verdict.{Verdict}
+use Rattle.slots.specs.declared.answers.Verdict.the-variants.{Accepted, Refused}
+use Rattle.slots.specs.Answers.{noCounts, reasonNumber, numberOf, countsOf}
+use Rattle.slots.specs.Slots.{fresh, slotAt}
+use Rattle.slots.specs.Calls.{Bufs, lent}
+use Rattle.slots.specs.Table.{Call, verdict, bad}
+use Rattle.bank.specs.World.{World, Event, movedBy, callDef}
+use Rattle.slot_bytes.specs.Layout.{parts, decodeBank, encodeBank, withBytes, encodeSlot}
 
 -- making a fresh bank: refused with 1 where the length is another
 unfoldable pub freshDef : List ℕ → ℕ × List ℕ
@@ -50,10 +36,6 @@ isBank bs = eqb (length bs) 3144 && not (badFlags (parts 8 bs))
 -- number 1, where a bank crosses as bytes
 unfoldable pub badBytes : List ℕ → List Float → Bool
 badBytes bs mem = not (isBank bs) || bad (decodeBank bs) mem
-
--- bytes with a slot's in their place
-abbrev pub withBytes : ℕ → List ℕ → List ℕ → List ℕ
-withBytes slot new bs = put (393 * slot) 393 new bs
 
 -- what crosses: the bank's bytes, the generator's word and line memory
 pub record Crossing : Type 0 where

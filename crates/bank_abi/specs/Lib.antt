@@ -1,5 +1,3 @@
--- What the exported calls are proved equal to, and the layout of the bank's bytes.
-pub mod Words
-pub mod Layout
+-- What the exported calls are proved equal to, and what is claimed of the layout of the bank's bytes.
 pub mod Crossing
 pub mod Claims

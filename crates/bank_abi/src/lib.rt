@@ -2,18 +2,16 @@
 ghost use mathlib.Core.Path.{_≡_};
 ghost use Prim.Native.Nat.{ℕ};
 ghost use lib.ListN.{length};
-ghost use Rattle.bank.specs.Slots.{fresh};
-ghost use Rattle.bank.specs.Answers.{noCounts};
-ghost use Rattle.bank.specs.Calls.{opening, reset, render, lent};
-ghost use Rattle.bank_abi.specs.Crossing.{encodeBank, freshDef, Gives};
+ghost use Rattle.slots.specs.Slots.{fresh};
+ghost use Rattle.slots.specs.Answers.{noCounts};
+ghost use Rattle.slots.specs.Calls.{opening, reset, render, lent};
+ghost use Rattle.slot_bytes.specs.Layout.{encodeBank};
+ghost use Rattle.bank_abi.specs.Crossing.{freshDef, Gives};
 
-pub mod decode;
-pub mod encode;
 pub mod table;
-pub mod words;
 
-use bank::answers::Verdict;
 use noise::excitation::Knobs;
+use slots::answers::Verdict;
 
 // The length of a bank in bytes.
 #[no_mangle]
@@ -56,12 +54,12 @@ pub extern "C" fn bleidhvan_open(
     })) ⌝ }
 {
     let bad = crate::table::bad(bytes, lines);
-    let verdict = bank::table::check_open(bad, slot, kind, sample_rate_hz);
+    let verdict = slots::table::check_open(bad, slot, kind, sample_rate_hz);
     match verdict {
-        Verdict::Refused(reason) => bank::answers::reason_number(reason),
+        Verdict::Refused(reason) => slots::answers::reason_number(reason),
         Verdict::Accepted => {
             let x = bank::acts::open(lines, slot, kind, sample_rate_hz);
-            crate::encode::put_nth(bytes, slot, x);
+            slot_bytes::encode::put_nth(bytes, slot, x);
             0
         }
     }
@@ -79,13 +77,13 @@ pub extern "C" fn bleidhvan_reset(bytes: &mut [u8], lines: &mut [f32], slot: usi
 {
     let bad = crate::table::bad(bytes, lines);
     let kind = crate::table::kind_at(bytes, slot);
-    let verdict = bank::table::check_reset(bad, slot, kind);
+    let verdict = slots::table::check_reset(bad, slot, kind);
     match verdict {
-        Verdict::Refused(reason) => bank::answers::reason_number(reason),
+        Verdict::Refused(reason) => slots::answers::reason_number(reason),
         Verdict::Accepted => {
-            let x = crate::decode::nth(bytes, slot);
+            let x = slot_bytes::decode::nth(bytes, slot);
             let y = bank::acts::reset(x, lines, slot);
-            crate::encode::put_nth(bytes, slot, y);
+            slot_bytes::encode::put_nth(bytes, slot, y);
             0
         }
     }
@@ -137,14 +135,14 @@ pub extern "C" fn bleidhvan_render(
     };
     let bad = crate::table::bad(bytes, lines);
     let kind = crate::table::kind_at(bytes, slot);
-    let verdict = bank::table::check_render(bad, slot, kind, k, temp, temp_2, out, aux);
+    let verdict = slots::table::check_render(bad, slot, kind, k, temp, temp_2, out, aux);
     match verdict {
-        Verdict::Refused(reason) => bank::answers::reason_number(reason),
+        Verdict::Refused(reason) => slots::answers::reason_number(reason),
         Verdict::Accepted => {
-            let x = crate::decode::nth(bytes, slot);
+            let x = slot_bytes::decode::nth(bytes, slot);
             let r = bank::acts::render(x, lines, *word, slot, k, temp, temp_2, out, aux);
             let y = r.slot;
-            crate::encode::put_nth(bytes, slot, y);
+            slot_bytes::encode::put_nth(bytes, slot, y);
             *word = r.word;
             let counts = r.counts;
             *burst = counts.burst;

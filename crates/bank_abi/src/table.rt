@@ -2,11 +2,11 @@
 ghost use mathlib.Core.Path.{_≡_};
 ghost use mathlib.Core.Bool.{_||_};
 ghost use lib.ListN.{length};
-ghost use Rattle.bank.specs.Slots.{slotAt};
-ghost use Rattle.bank.specs.World.{badSlot, badSlots};
-ghost use Rattle.bank_abi.specs.Layout.{decodeSlot};
-ghost use Rattle.bank_abi.specs.Crossing.{parts, decodeBank, badFlag, badFlags, badBytes};
-use crate::words::word_at;
+ghost use Rattle.slots.specs.Slots.{slotAt};
+ghost use Rattle.slots.specs.Table.{badSlot, badSlots};
+ghost use Rattle.slot_bytes.specs.Layout.{decodeSlot, parts, decodeBank};
+ghost use Rattle.bank_abi.specs.Crossing.{badFlag, badFlags, badBytes};
+use slot_bytes::words::word_at;
 
 // Whether a slot's kind, places, left or flag is bad.
 fn bad_slot(b: &[u8]) -> bool

@@ -8,9 +8,9 @@ use answers::calls::with_buffers;
 use answers::calls::with_no_buffers;
 use answers::draws;
 use answers::words;
-use bank::answers::Answer;
-use bank::slots::Bank;
 use ground::bits::float_of;
+use slots::answers::Answer;
+use slots::slots::Bank;
 
 // The bank and the generator's word after a call, and the call's row.
 pub struct Made {
@@ -42,9 +42,9 @@ fn lent(word: u32, slice: &[f32]) -> usize
 
 // A row with 01's number and the three counts.
 fn with_answer(row: [u32; 64], answer: Answer) -> [u32; 64] {
-    let counts = bank::answers::counts_of(answer);
+    let counts = slots::answers::counts_of(answer);
     let mut out = row;
-    out[17] = bank::answers::number_of(answer);
+    out[17] = slots::answers::number_of(answer);
     out[18] = words::low(counts.burst);
     out[19] = words::low(counts.dust);
     out[20] = words::low(counts.dispersion);
@@ -53,7 +53,7 @@ fn with_answer(row: [u32; 64], answer: Answer) -> [u32; 64] {
 
 // The call with all that it leaves: the word, line memory, and every slot's record.
 fn leaves(row: [u32; 64], bank: Bank, word: u32, lines: &[f32]) -> Made {
-    let mut out = crate::slots::with_slots(row, 27, bank);
+    let mut out = crate::digests::with_slots(row, 27, bank);
     out[21] = word;
     out[26] = draws::digest_of_buffer(lines);
     Made {
@@ -72,7 +72,7 @@ fn begin(row: [u32; 64], lines: &mut [f32]) -> Made {
 
 // A number put in a slot, as no call leaves it.
 fn put(before: Bank, word: u32, row: [u32; 64], lines: &[f32]) -> Made {
-    let bank = crate::slots::put(before, row[11], row[12], row[13]);
+    let bank = crate::digests::put(before, row[11], row[12], row[13]);
     leaves(with_no_buffers(inputs_of(row), 22), bank, word, lines)
 }
 

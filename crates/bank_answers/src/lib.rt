@@ -1,11 +1,11 @@
 // Lists of calls of a bank: every recorded call is made again.
 mod calls;
-mod slots;
+mod digests;
 
 use answers::calls::Adds;
 use answers::calls::Progress;
 use answers::print;
-use bank::slots::Bank;
+use slots::slots::Bank;
 
 // What was compared so far, the bank and the generator's word as the last call left them, and how many calls got each of 01's numbers.
 struct Replayed {

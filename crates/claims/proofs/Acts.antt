@@ -20,13 +20,13 @@ use Rattle.noise.proofs.Ranges.{Knob, Fundamental, knob, fundamental}
 use Rattle.string_voice.proofs.Drawn as string
 use Rattle.modal_voice.specs.ModalVoice as modal-specs
 use Rattle.modal_voice.proofs.Drawn as modal
-use Rattle.bank.specs.declared.answers.Reason.{Reason}
-use Rattle.bank.specs.declared.answers.Verdict.{Verdict}
-use Rattle.bank.specs.declared.answers.Verdict.the-variants.{Accepted, Refused}
-use Rattle.bank.specs.declared.slots.Slot.{Slot}
-use Rattle.bank.specs.Slots.{noString}
-use Rattle.bank.specs.Calls.{Bufs, Act, opening, reset, render, Voice, Done, openDef, resetDef, stringDef, modalDef, renderDef, actDef}
-use Rattle.bank.specs.Table.{Check, first, within, lowest, alike, checks}
+use Rattle.slots.specs.declared.answers.Reason.{Reason}
+use Rattle.slots.specs.declared.answers.Verdict.{Verdict}
+use Rattle.slots.specs.declared.answers.Verdict.the-variants.{Accepted, Refused}
+use Rattle.slots.specs.declared.slots.Slot.{Slot}
+use Rattle.slots.specs.Slots.{noString}
+use Rattle.slots.specs.Calls.{Bufs, Act, opening, reset, render, Voice, Done, openDef, resetDef, stringDef, modalDef, renderDef, actDef}
+use Rattle.slots.specs.Table.{Check, first, within, lowest, alike, checks}
 use Rattle.claims.specs.Ledger.{Led, Entry, stringEntry, modalEntry, renderEntry, entry}
 use Rattle.claims.specs.Claim.{total, Each, InF32}
 use Rattle.claims.proofs.Agreement.{left-is, phase-is, dispersion-is}

@@ -16,17 +16,17 @@ use lib.Ieee.{Float}
 use Rattle.ground.specs.Draw.{Draw, value, ending, words, moved, stream}
 use Rattle.ground.proofs.Draw.{fed-words, words-are, ending-is, always-run, draws-length, draws-always}
 use Rattle.ground.proofs.Part.{length-part, length-put, part-put, part-put-below, part-put-above}
-use Rattle.bank.specs.declared.slots.Slot.{Slot}
-use Rattle.bank.specs.declared.answers.Reason.{Reason}
-use Rattle.bank.specs.declared.answers.Reason.the-variants.{NoSlot}
-use Rattle.bank.specs.declared.answers.Verdict.{Verdict}
-use Rattle.bank.specs.declared.answers.Verdict.the-variants.{Accepted, Refused}
-use Rattle.bank.specs.declared.answers.Answer.the-variants.{Drawn}
-use Rattle.bank.specs.Answers.{countsOf}
-use Rattle.bank.specs.Slots.{noString, emptySlot, slotAt, withSlot}
-use Rattle.bank.specs.Calls.{Done, actDef}
-use Rattle.bank.specs.Table.{Call, first, checks, verdict}
-use Rattle.bank.specs.World.{World, linesAt, withLines, voiceAt, badSlot, badSlots, bad, Event, callBy, callDef}
+use Rattle.slots.specs.declared.slots.Slot.{Slot}
+use Rattle.slots.specs.declared.answers.Reason.{Reason}
+use Rattle.slots.specs.declared.answers.Reason.the-variants.{NoSlot}
+use Rattle.slots.specs.declared.answers.Verdict.{Verdict}
+use Rattle.slots.specs.declared.answers.Verdict.the-variants.{Accepted, Refused}
+use Rattle.slots.specs.declared.answers.Answer.the-variants.{Drawn}
+use Rattle.slots.specs.Answers.{countsOf}
+use Rattle.slots.specs.Slots.{noString, emptySlot, slotAt, withSlot}
+use Rattle.slots.specs.Calls.{Done, actDef}
+use Rattle.slots.specs.Table.{Call, first, checks, verdict, badSlot, badSlots, bad}
+use Rattle.bank.specs.World.{World, linesAt, withLines, voiceAt, Event, callBy, callDef}
 use Rattle.claims.specs.Ledger.{Led, freshLed, Entry, entry, Line, lineBy, lineOf}
 use Rattle.claims.specs.Claim.{nothing, given, feed, of-done, hear, seen, total, Each, InF32}
 use Rattle.claims.proofs.Acts.{led-of, Ok, Follows, ByLedger, passed, act-law}

@@ -9,13 +9,13 @@ use lib.Ieee.{Float, fin, binary32, ofBits, add, sub, mul, div, lt, le, neg, toU
 use Rattle.ground.specs.F32.{c0, c0·26, c0·5, c48000}
 use Rattle.waveguide.specs.String.{nonLinearity, wordsOf}
 use Rattle.string_voice.specs.StringVoice.{amount}
-use Rattle.bank.specs.declared.answers.Knob.the-variants.{F0}
-use Rattle.bank.specs.declared.answers.Reason.the-variants.{TooLong, OutOfRange}
-use Rattle.bank.specs.declared.answers.Verdict.the-variants.{Accepted, Refused}
-use Rattle.bank.specs.declared.answers.Answer.the-variants.{Drawn}
-use Rattle.bank.specs.Answers.{noCounts}
-use Rattle.bank.specs.Calls.{Bufs, opening, render}
-use Rattle.bank.specs.Table.{Call, first, within, alike, checks, verdict}
+use Rattle.slots.specs.declared.answers.Knob.the-variants.{F0}
+use Rattle.slots.specs.declared.answers.Reason.the-variants.{TooLong, OutOfRange}
+use Rattle.slots.specs.declared.answers.Verdict.the-variants.{Accepted, Refused}
+use Rattle.slots.specs.declared.answers.Answer.the-variants.{Drawn}
+use Rattle.slots.specs.Answers.{noCounts}
+use Rattle.slots.specs.Calls.{Bufs, opening, render}
+use Rattle.slots.specs.Table.{Call, first, within, alike, checks, verdict}
 use Rattle.claims.specs.Ledger.{freshLed, period, heldPeriod, ratio, whole, nextPhase, phaseAfter, steps, stringEntry, renderEntry, entry, lineBy, lineOf, ledgerFrom, ledger}
 use Rattle.claims.proofs.Agreement.{blockRatio, blockPhase}
 

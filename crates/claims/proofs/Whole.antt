@@ -12,16 +12,16 @@ use borrow.Author.Tests.{ne-eqb}
 use lib.Ieee.{Float}
 use Rattle.ground.specs.Draw.{moved, stream}
 use Rattle.ground.proofs.Draw.{moved-add, stream-add, length-stream, stream-at}
-use Rattle.bank.specs.declared.answers.Reason.the-variants.{Memory}
-use Rattle.bank.specs.declared.answers.Verdict.{Verdict}
-use Rattle.bank.specs.declared.answers.Verdict.the-variants.{Accepted, Refused}
-use Rattle.bank.specs.declared.answers.Answer.{Answer}
-use Rattle.bank.specs.declared.answers.Answer.the-variants.{Refusal}
-use Rattle.bank.specs.Answers.{countsOf, numberOf}
-use Rattle.bank.specs.Slots.{noString, emptySlot, fresh}
-use Rattle.bank.specs.Calls.{Voice}
-use Rattle.bank.specs.Table.{Call, first, verdict}
-use Rattle.bank.specs.World.{World, start, linesAt, voiceAt, bad, Event, callBy, callDef, runFrom, endFrom}
+use Rattle.slots.specs.declared.answers.Reason.the-variants.{Memory}
+use Rattle.slots.specs.declared.answers.Verdict.{Verdict}
+use Rattle.slots.specs.declared.answers.Verdict.the-variants.{Accepted, Refused}
+use Rattle.slots.specs.declared.answers.Answer.{Answer}
+use Rattle.slots.specs.declared.answers.Answer.the-variants.{Refusal}
+use Rattle.slots.specs.Answers.{countsOf, numberOf}
+use Rattle.slots.specs.Slots.{noString, emptySlot, fresh}
+use Rattle.slots.specs.Calls.{Voice}
+use Rattle.slots.specs.Table.{Call, first, verdict, bad}
+use Rattle.bank.specs.World.{World, start, linesAt, voiceAt, Event, callBy, callDef, runFrom, endFrom}
 use Rattle.claims.specs.Ledger.{Led, freshLed, Line, lineBy, lineOf, ledgerFrom, ledger}
 use Rattle.claims.specs.Claim.{Feed, feed, feeds, Heard, hear, note, go-on, alone, seen, sumOf, total, drawn, dealt, Each, Kept, Account, InF32, Demand3}
 use Rattle.claims.proofs.Acts.{Ok}

@@ -10,13 +10,13 @@ use lib.ListN.{length, getD}
 use lib.Ieee.{Float, binary32, fits}
 use Rattle.ground.specs.Draw.{moved, fed}
 use Rattle.noise.specs.declared.excitation.Counts.{Counts}
-use Rattle.bank.specs.declared.answers.Answer.{Answer}
-use Rattle.bank.specs.declared.answers.Answer.the-variants.{Drawn, Refusal}
-use Rattle.bank.specs.declared.answers.Reason.the-variants.{Memory}
-use Rattle.bank.specs.Answers.{noCounts, countsOf, numberOf}
-use Rattle.bank.specs.Slots.{emptySlot}
-use Rattle.bank.specs.Calls.{Bufs, Act, opening, reset, render, lent, Voice, Done, actDef}
-use Rattle.bank.specs.Table.{Call}
+use Rattle.slots.specs.declared.answers.Answer.{Answer}
+use Rattle.slots.specs.declared.answers.Answer.the-variants.{Drawn, Refusal}
+use Rattle.slots.specs.declared.answers.Reason.the-variants.{Memory}
+use Rattle.slots.specs.Answers.{noCounts, countsOf, numberOf}
+use Rattle.slots.specs.Slots.{emptySlot}
+use Rattle.slots.specs.Calls.{Bufs, Act, opening, reset, render, lent, Voice, Done, actDef}
+use Rattle.slots.specs.Table.{Call}
 use Rattle.bank.specs.World.{start, linesAt, voiceAt, Event, runFrom, endFrom}
 use Rattle.claims.specs.Ledger.{Line, ledger}
 

@@ -8,13 +8,13 @@ use lib.Ieee.{Float, binary32, ofBits, lt, le, toUnsigned}
 use Rattle.ground.specs.F32.{_⊕_, _⊖_, _⊗_, _⊘_, c0, c1, c4}
 use Rattle.noise.specs.declared.excitation.Knobs.{Knobs}
 use Rattle.noise.specs.declared.excitation.Counts.{Counts}
-use Rattle.bank.specs.declared.answers.Verdict.{Verdict}
-use Rattle.bank.specs.declared.answers.Verdict.the-variants.{Accepted, Refused}
-use Rattle.bank.specs.declared.answers.Answer.{Answer}
-use Rattle.bank.specs.declared.answers.Answer.the-variants.{Drawn, Refusal}
-use Rattle.bank.specs.Answers.{noCounts}
-use Rattle.bank.specs.Calls.{Act, opening, reset, render}
-use Rattle.bank.specs.Table.{Call, verdict}
+use Rattle.slots.specs.declared.answers.Verdict.{Verdict}
+use Rattle.slots.specs.declared.answers.Verdict.the-variants.{Accepted, Refused}
+use Rattle.slots.specs.declared.answers.Answer.{Answer}
+use Rattle.slots.specs.declared.answers.Answer.the-variants.{Drawn, Refusal}
+use Rattle.slots.specs.Answers.{noCounts}
+use Rattle.slots.specs.Calls.{Act, opening, reset, render}
+use Rattle.slots.specs.Table.{Call, verdict}
 
 -- each slot has kind, left and phase, all 0 on a fresh bank
 pub record Led : Type 0 where

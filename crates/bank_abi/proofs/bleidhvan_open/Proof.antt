@@ -1,8 +1,8 @@
 -- `bleidhvan_open` meets its contract: the table decides.
 use Rattle.bank.proofs.Accepted.{asked}
-use Rattle.bank.specs.Calls.{opening}
-use Rattle.bank_abi.specs.Crossing.{decodeBank}
-use Rattle.bank.specs.Slots.{slotAt}
+use Rattle.slots.specs.Calls.{opening}
+use Rattle.slot_bytes.specs.Layout.{decodeBank}
+use Rattle.slots.specs.Slots.{slotAt}
 use Rattle.bank_abi.proofs.Crosses.{decided, taken, refused, accepted}
 use mathlib.Core.Path.{refl}
 use denote.Ref.{now}

@@ -1,10 +1,10 @@
 -- `bleidhvan_render` meets its contract: the table decides.
 use denote.Floats.{passes}
 use Rattle.bank.proofs.Accepted.{ready, alike-lent}
-use Rattle.bank.specs.Calls.{Bufs, render}
+use Rattle.slots.specs.Calls.{Bufs, render}
 use Rattle.noise.specs.declared.excitation.Knobs.{Knobs}
-use Rattle.bank_abi.specs.Crossing.{decodeBank}
-use Rattle.bank.specs.Slots.{slotAt}
+use Rattle.slot_bytes.specs.Layout.{decodeBank}
+use Rattle.slots.specs.Slots.{slotAt}
 use Rattle.bank_abi.proofs.Crosses.{decided, taken, refused, accepted}
 use mathlib.Core.Path.{ap}
 use denote.Ref.{now}

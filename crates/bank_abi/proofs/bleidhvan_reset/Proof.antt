@@ -1,5 +1,5 @@
 -- `bleidhvan_reset` meets its contract: the table decides.
-use Rattle.bank.specs.Calls.{reset}
+use Rattle.slots.specs.Calls.{reset}
 use Rattle.bank_abi.proofs.Crosses.{decided, taken, refused, accepted}
 use denote.Ref.{now}
 use borrow.Author.Needs.{needs}

@@ -1,6 +1,6 @@
 -- `calls::open` meets its contract: the table decides.
-use Rattle.bank.specs.Slots.{slotAt}
-use Rattle.bank.specs.Calls.{opening}
+use Rattle.slots.specs.Slots.{slotAt}
+use Rattle.slots.specs.Calls.{opening}
 use Rattle.bank.proofs.Accepted.{whole, begun, asked}
 use Rattle.bank.proofs.Moves.{decided, refused-left, accepted-left, given-back}
 use mathlib.Core.Path.{refl}

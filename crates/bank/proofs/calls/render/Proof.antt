@@ -1,6 +1,6 @@
 -- `calls::render` meets its contract: the table decides.
-use Rattle.bank.specs.Slots.{slotAt}
-use Rattle.bank.specs.Calls.{Bufs, render}
+use Rattle.slots.specs.Slots.{slotAt}
+use Rattle.slots.specs.Calls.{Bufs, render}
 use Rattle.bank.proofs.Accepted.{whole, begun, ready, alike-lent}
 use Rattle.bank.proofs.Moves.{decided, refused-left, accepted-left}
 use mathlib.Core.Path.{ap}

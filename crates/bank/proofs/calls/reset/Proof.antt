@@ -1,6 +1,6 @@
 -- `calls::reset` meets its contract: the table decides.
-use Rattle.bank.specs.Slots.{slotAt}
-use Rattle.bank.specs.Calls.{reset}
+use Rattle.slots.specs.Slots.{slotAt}
+use Rattle.slots.specs.Calls.{reset}
 use Rattle.bank.proofs.Accepted.{whole, begun}
 use Rattle.bank.proofs.Moves.{decided, refused-left, accepted-left, given-back}
 use denote.Ref.{now}

@@ -43,14 +43,14 @@ use denote.Triple.Spec.{Meets, tripleOf}
 use denote.Triple.Table.{entered, cited}
 use denote.Triple.Walked.{says, Stays, stay-ref, stay-none, gave-slice, walkOf, AllGo, goes-ref, goes-none, goes-gave-slice, Walks, ends-at, walked, walk-meets}
 use denote.Exit.{yes}
-use Rattle.bank.specs.declared.slots.Bank.{Bank}
+use Rattle.slots.specs.declared.slots.Bank.{Bank}
 use Rattle.noise.specs.declared.excitation.Knobs.{Knobs}
 use Rattle.bank.specs.declared.calls.Rendered.{Rendered}
-use Rattle.bank.specs.Calls.{render}
+use Rattle.slots.specs.Calls.{render}
 use Rattle.bank.specs.World.{leftOf, callDef}
 use Rattle.bank.specs.declared.generator.Generator.{Generator}
-use Rattle.bank.proofs.slots.Bank as B
-use Rattle.bank.proofs.slots.Bank.Laws as B′
+use Rattle.slots.proofs.slots.Bank as B
+use Rattle.slots.proofs.slots.Bank.Laws as B′
 use Rattle.noise.proofs.excitation.Knobs as K
 use Rattle.noise.proofs.excitation.Knobs.Laws as K′
 use Rattle.bank.proofs.calls.Rendered as R

@@ -1,5 +1,5 @@
 -- `table::bad` meets its contract.
-use Rattle.bank_abi.proofs.Parts.{other-length, other-lines, by-slots}
+use Rattle.bank_abi.proofs.NumberOne.{other-length, other-lines, by-slots}
 use borrow.Author.Tests.{eq-eqb, ne-eqb}
 use mathlib.Core.Path.{_∙_}
 use borrow.Author.Needs.{needs}

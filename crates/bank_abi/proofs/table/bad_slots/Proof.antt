@@ -1,6 +1,6 @@
 -- `table::bad_slots` meets its contract: the parts that are left to look at give the whole answer.
-use Rattle.bank_abi.proofs.Parts.{anyBad, found, further, none-left}
-use Rattle.bank_abi.specs.Crossing.{parts, decodeBank}
+use Rattle.bank_abi.proofs.NumberOne.{anyBad, found, further, none-left}
+use Rattle.slot_bytes.specs.Layout.{parts, decodeBank}
 use lib.ListN.{drop, length-take, length-drop}
 use Prim.Native.Nat.{_-_, _≤_}
 use mathlib.Core.Path.{_≡_, refl}

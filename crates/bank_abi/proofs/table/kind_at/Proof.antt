@@ -1,5 +1,5 @@
 -- `table::kind_at` meets its contract.
-use Rattle.bank_abi.proofs.Parts.{kind-cut, slot-none}
+use Rattle.slot_bytes.proofs.Parts.{kind-cut, slot-none}
 use lib.ListN.{length-take, length-drop}
 use mathlib.Core.Path.{_∙_}
 use denote.Ref.{now}

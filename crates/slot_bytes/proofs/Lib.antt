@@ -1,0 +1,3 @@
+-- Laws of the bytes of a slot.
+pub mod Little
+pub mod Parts

@@ -1,0 +1,3 @@
+-- Laws of the slots and of the table.
+pub mod Checks
+pub mod Places
