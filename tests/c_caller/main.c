@@ -10,8 +10,9 @@ static void say(const char *what, uint32_t number) { printf("%s: %u\n", what, nu
 
 static void render(const char *what, size_t bank_len, size_t slot) {
     size_t burst, dust, dispersion;
+    bool slow_subnormals = false;
     say(what, bleidhvan_render(bank, bank_len, lines, BLEIDHVAN_LINES, &word, slot, false, true, 0.5f, 1.0f / 2048, 0.5f, 0.5f, 0.5f, temp, 8,
-                               temp_2, 8, out, 8, aux, 8, &burst, &dust, &dispersion));
+                               temp_2, 8, out, 8, aux, 8, &burst, &dust, &dispersion, slow_subnormals));
     printf("  burst %zu, dust %zu, dispersion %zu, word %u\n", burst, dust, dispersion, word);
 }
 

@@ -88,8 +88,9 @@ fn render_string(
     }
 }
 
-// A render of a modal voice, which has no lines.
+// A render of a modal voice, which has no lines; `around` subnormal products or not.
 fn render_modal(
+    around: bool,
     x: Slot,
     word: u32,
     slot: usize,
@@ -109,7 +110,7 @@ fn render_modal(
     }) ⌝ }
 {
     let voice = x.modal;
-    let m = voice.render(k, temp, temp_2, out, aux, word);
+    let m = voice.render(around, k, temp, temp_2, out, aux, word);
     let string = x.string;
     let modal = m.voice;
     let after = Slot {
@@ -127,6 +128,7 @@ fn render_modal(
 
 // A render, by the slot's kind.
 pub fn render(
+    around: bool,
     x: Slot,
     lines: &mut [f32],
     word: u32,
@@ -149,5 +151,5 @@ pub fn render(
     if x.kind == 1 {
         return render_string(x, lines, word, slot, k, temp, temp_2, out, aux);
     }
-    render_modal(x, word, slot, k, temp, temp_2, out, aux)
+    render_modal(around, x, word, slot, k, temp, temp_2, out, aux)
 }

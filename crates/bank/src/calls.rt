@@ -113,7 +113,7 @@ pub fn render(
         },
         Verdict::Accepted => {
             let x = slots::slots::slot_at(bank, slot);
-            let r = crate::acts::render(x, lines, word, slot, k, temp, temp_2, out, aux);
+            let r = crate::acts::render(true, x, lines, word, slot, k, temp, temp_2, out, aux);
             let y = r.slot;
             let after = slots::slots::with_slot(bank, slot, y);
             let counts = r.counts;

@@ -28,10 +28,12 @@ uint32_t bleidhvan_open(uint8_t *bank, size_t bank_len, float *lines, size_t lin
 /* A string slot is reset, and its lines are cleared: 0, or why not. */
 uint32_t bleidhvan_reset(uint8_t *bank, size_t bank_len, float *lines, size_t lines_len, size_t slot);
 
-/* A block of a slot's voice into the buffers: 0, or why not. The word is the generator's; the words drawn are counted. */
+/* A block of a slot's voice into the buffers: 0, or why not. The word is the generator's; the words drawn are counted.
+   slow_subnormals tells whether this processor takes long over subnormal numbers: either value gives the same results, one of them sooner. */
 uint32_t bleidhvan_render(uint8_t *bank, size_t bank_len, float *lines, size_t lines_len, uint32_t *word, size_t slot, bool sustain, bool trigger,
                           float accent, float f0, float structure, float brightness, float damping, float *temp, size_t temp_len, float *temp_2,
-                          size_t temp_2_len, float *out, size_t out_len, float *aux, size_t aux_len, size_t *burst, size_t *dust, size_t *dispersion);
+                          size_t temp_2_len, float *out, size_t out_len, float *aux, size_t aux_len, size_t *burst, size_t *dust, size_t *dispersion,
+                          bool slow_subnormals);
 
 #ifdef __cplusplus
 }

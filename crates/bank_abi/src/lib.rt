@@ -90,6 +90,7 @@ pub extern "C" fn bleidhvan_reset(bytes: &mut [u8], lines: &mut [f32], slot: usi
 }
 
 // A block of a slot's voice into the buffers; the generator's word is lent, and the counts are written.
+// `slow_subnormals` says whether the processor takes long over subnormal numbers, and changes no bit.
 #[no_mangle]
 pub extern "C" fn bleidhvan_render(
     bytes: &mut [u8],
@@ -110,6 +111,7 @@ pub extern "C" fn bleidhvan_render(
     burst: &mut usize,
     dust: &mut usize,
     dispersion: &mut usize,
+    slow_subnormals: bool,
 ) -> u32
     ensures { λ r. ⌜ Gives (record { bytes = now (bytes .entry); word = now (word .entry); mem = now (lines .entry) }) (record {
       slot = slot;
@@ -140,7 +142,18 @@ pub extern "C" fn bleidhvan_render(
         Verdict::Refused(reason) => slots::answers::reason_number(reason),
         Verdict::Accepted => {
             let x = slot_bytes::decode::nth(bytes, slot);
-            let r = bank::acts::render(x, lines, *word, slot, k, temp, temp_2, out, aux);
+            let r = bank::acts::render(
+                slow_subnormals,
+                x,
+                lines,
+                *word,
+                slot,
+                k,
+                temp,
+                temp_2,
+                out,
+                aux,
+            );
             let y = r.slot;
             slot_bytes::encode::put_nth(bytes, slot, y);
             *word = r.word;

@@ -123,7 +123,7 @@ fn open(row: [u32; 64]) -> Made {
     leaves(with_no_block(inputs_of(row)), voice)
 }
 
-// A block in buffers of its length.
+// A block in buffers of its length; the word's last bit says which way subnormal products go.
 fn render(
     before: ModalVoice,
     row: [u32; 64],
@@ -135,7 +135,8 @@ fn render(
     requires { ⌜ Alike (now temp) (now «temp_2») (now out) (now aux) ⌝ }
 {
     fill(row, temp, temp_2, out, aux);
-    let r = before.render(knobs_of(row), temp, temp_2, out, aux, row[9]);
+    let around = row[9] % 2 == 1;
+    let r = before.render(around, knobs_of(row), temp, temp_2, out, aux, row[9]);
     let given = with_block(inputs_of(row), r.word, temp, temp_2, out, aux);
     let voice = r.voice;
     leaves(given, voice)

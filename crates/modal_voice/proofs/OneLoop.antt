@@ -1,18 +1,20 @@
 -- One loop over the frames is the excitation filter, then aux, then the modes: laws over plain values. Assumes nothing.
 use mathlib.Core.Path.{_≡_, refl, sym, _∙_, ap}
-use mathlib.Core.Bool.{Bool, false, _&&_, cond}
+use mathlib.Core.Bool.{Bool, false, cond}
 use mathlib.Core.List.{List}
-use Prim.Native.Nat.{ℕ, _*_, _^_, _≤_, _<_}
+use Prim.Native.Nat.{ℕ, _+_, _*_, _^_, _≤_, _<_, min}
+use native.Mathlib.Omega.{arith}
 use borrow.Author.Tests.{lt-ltb, le-ltb}
-use lib.ListN.{getD, length}
+use lib.ListN.{getD, length, set}
 use lib.Ieee.{Float, nan}
 use Rattle.ground.specs.F32.{_⊕_, _⊗_, c0, c1}
 use Rattle.ground.specs.Draw.{run}
 use Rattle.ground.specs.Frames.{scan}
-use Rattle.ground.proofs.Lead.{fill}
+use Rattle.ground.proofs.Frames.{Scan, frames-begin, length-scan, scan-turn, scan-end}
+use Rattle.ground.proofs.Lead.{fill, Lead, lead-begin, lead-turn, lead-puts, lead-end}
 use Rattle.noise.specs.declared.excitation.Knobs.{Knobs}
 use Rattle.noise.specs.declared.excitation.Counts.{Counts}
-use Rattle.noise.specs.Excitation.{raised, added}
+use Rattle.noise.specs.Excitation.{Alike, addStep, raised, added}
 use Rattle.modes.specs.declared.resonator.ResonatorSvf.{ResonatorSvf}
 use Rattle.modes.specs.declared.resonator.Batch.{Batch}
 use Rattle.modes.specs.declared.resonator.Mode.{Mode}
@@ -22,10 +24,10 @@ use Rattle.modal_voice.specs.declared.modal_voice.Ahead.{Ahead}
 use Rattle.modal_voice.specs.declared.modal_voice.ModalVoice.{ModalVoice}
 use Rattle.modes.specs.declared.resonator.Ticked.{Ticked}
 use Rattle.modes.specs.Resonator.{modeOf, tickOf, lowStep, lowBlock}
-use Rattle.modes.specs.Subnormal.{isSmall}
 use Rattle.modes.specs.OnePass.{modesFor, statesOf, filtersOf, frameOf, onePass}
 use Rattle.modal_voice.specs.ModalVoice.{cutoffFor, resonanceFor, excitation, heldAfter, excitationWords, excitationCounts, renderOf}
-use Rattle.modal_voice.specs.OneLoop.{Framed, framesOf, sameMemory, passOf, aheadOf}
+use Rattle.modal_voice.specs.OneLoop.{Framed, framesOf, Sung, sungOf, sameMemory, passOf, Stays, aheadOf}
+use Rattle.modes.proofs.Frame.{frame-sizes}
 use Rattle.modes.proofs.OnePass.{processed}
 use Rattle.modal_voice.proofs.Halves.{excited, sounded, rendered}
 
@@ -43,14 +45,14 @@ pub record Block (temp temp2 out aux filtered : List Float) (n : ℕ) : Type 0 w
   pub small : n * 4 < 2 ^ 63
 
 -- what the calls of a filter's step ensure, put together
-pub filter-passed : (k : Mode) (s : ResonatorSvf) (x : Float) {t : Ticked} {y : Float} {b : Bool} → t ≡ tickOf k s x → y ≡ k .gain ⊗ t .lp → b ≡ (isSmall s && sameMemory s (t .svf))
+pub filter-passed : (k : Mode) (s : ResonatorSvf) (x : Float) {t : Ticked} {y : Float} {b : Bool} → t ≡ tickOf k s x → y ≡ k .gain ⊗ t .lp → b ≡ sameMemory s (t .svf)
     → _≡_ {A = Ahead} (record { svf = t .svf; x = c0 ⊕ y; stands = b }) (passOf k s x)
 unfolding passOf scan
 filter-passed k s x et ey eb =
     λ i. record {
       svf = et i .svf;
       x = (ap (λ (y : Float). c0 ⊕ y) ey ∙ ap (λ (t : Ticked). c0 ⊕ k .gain ⊗ t .lp) et) i;
-      stands = (eb ∙ ap (λ (t : Ticked). isSmall s && sameMemory s (t .svf)) et) i;
+      stands = (eb ∙ ap (λ (t : Ticked). sameMemory s (t .svf)) et) i;
     }
 
 -- the filter ahead, within the block and past its end
@@ -73,20 +75,89 @@ module _ {o : Ahead} (k : Mode) (s : ResonatorSvf) (xs : List Float) (i : ℕ) (
   pub ahead-end : length xs ≤ i → o .svf ≡ s
   ahead-end l = ap (λ (p : Ahead). p .svf) (e ∙ sym (ahead-past k s xs i l))
 
--- what stands at the loop's end
+-- ---- a loop over the frames of a block; m is what the modes' coefficients are, one and two what they keep before it
+module _ (k : Mode) (s : ResonatorSvf) (m : Modes) (one two temp temp2 out aux : List Float) where
+  -- what the filter leaves in temp_2
+  abbrev filled : List Float
+  filled = scan (fill (lowOf k)) s temp temp2 .1
+
+  -- i frames of n are done
+  pub record Underway (n : ℕ) (i : ℕ) (ts os us ones twos : List Float) (filter : ResonatorSvf) (o : Ahead) : Type 0 where
+    pub lead : Lead (lowOf k) nan s temp temp2 i ts (o .svf, o .x)
+    pub mixed : Scan addStep tt filled aux i tt us
+    pub sung : Scan (frameOf m) (one, two) filled out i (ones, twos) os
+    pub stays : Stays k o (getD temp i nan)
+    pub one-size : length ones ≡ 24
+    pub two-size : length twos ≡ 24
+    pub block : Block temp temp2 out aux filled n
+    pub kept : length temp ≤ i → filter ≡ o .svf
+
+  pub underway-begin : {o : Ahead} → Alike temp temp2 out aux → length temp * 4 < 2 ^ 63 → length one ≡ 24 → length two ≡ 24
+      → o ≡ aheadOf k s temp 0 → Stays k o (getD temp 0 nan) → Underway (length temp) 0 temp2 out aux one two s o
+  underway-begin a b h1 h2 e t =
+      record {
+        lead = lead-begin (ahead-step k s temp 0 e) (ahead-end k s temp 0 e);
+        mixed = frames-begin;
+        sung = frames-begin;
+        stays = t;
+        one-size = h1;
+        two-size = h2;
+        block = record {
+          all = refl;
+          temp2-size = a .temp2-is;
+          out-size = a .out-is;
+          aux-size = a .aux-is;
+          filtered-size = length-scan (fill (lowOf k)) s temp temp2 ∙ a .temp2-is;
+          small = b;
+        };
+        kept = λ l. sym (ahead-end k s temp 0 e l);
+      }
+
+  pub underway-turn : {n i : ℕ} {ts os us ones twos ones' twos' : List Float} {filter : ResonatorSvf} {o p : Ahead} {y : Float}
+      → Underway n i ts os us ones twos filter o → i < n
+      → p ≡ aheadOf k (o .svf) temp (i + 1) → Stays k p (getD temp (i + 1) nan)
+      → _≡_ {A = (List Float × List Float) × Float} ((ones', twos'), y) (frameOf m (ones, twos) (o .x) (getD os i nan))
+      → Underway n (i + 1) (set ts i (o .x)) (set os i y) (set us i (getD us i nan ⊕ o .x)) ones' twos' (p .svf) p
+  underway-turn {i = i} {os = os} {us = us} {ones = ones} {twos = twos} {o = o} v l e t f =
+      let z = v .block in
+      let lt : i < length temp = omega (arith, z .all, l) in
+      let within : i < min (length temp) (length temp2) = omega (arith, z, lt) in
+      let x = lead-puts nan (v .lead) within in
+      let sizes = frame-sizes m ones twos (o .x) (getD os i nan) f in
+      record {
+        lead = lead-turn nan (v .lead) within (ahead-step k (o .svf) temp (i + 1) e) (ahead-end k (o .svf) temp (i + 1) e);
+        mixed = scan-turn nan nan (v .mixed) (omega (arith, z, lt)) (ap (λ (x : Float). (tt, getD us i nan ⊕ x)) x);
+        sung = scan-turn nan nan (v .sung) (omega (arith, z, lt)) (f ∙ ap (λ (x : Float). frameOf m (ones, twos) x (getD os i nan)) x);
+        stays = t;
+        one-size = sizes .0;
+        two-size = sizes .1;
+        block = z;
+        kept = λ h. refl;
+      }
+
+  pub underway-end : {n i : ℕ} {ts os us ones twos : List Float} {filter : ResonatorSvf} {o : Ahead} → Underway n i ts os us ones twos filter o → n ≤ i
+      → _≡_ {A = Sung} (record { filter = filter; «state_1» = ones; «state_2» = twos; temp2 = ts; out = os; aux = us }) (sungOf k s m one two temp temp2 out aux)
+  unfolding sungOf lowBlock
+  underway-end {i = i} {ts = ts} v l =
+      let z = v .block in
+      let past : length temp ≤ i = omega (arith, z .all, l) in
+      let et = ap (λ (f : ResonatorSvf). (f, ts)) (v .kept past) ∙ lead-end (v .lead) past in
+      let ea = ap (λ (q : Unit {0} × List Float). q .1) (scan-end (v .mixed) (omega (arith, z, past))) in
+      let eo = scan-end (v .sung) (omega (arith, z, past)) in
+      λ j. record { filter = et j .0; «state_1» = eo j .0 .0; «state_2» = eo j .0 .1; temp2 = et j .1; out = eo j .1; aux = ea j }
+
+-- the same with what the modes keep in batches
 pub all-frames : (k : Mode) (s : ResonatorSvf) (m : Modes) (fs : List Batch) (temp temp2 out aux : List Float)
     {z : ResonatorSvf} {u : States} {one two temp2' out' aux' : List Float} {gs : List Batch}
     → u ≡ statesOf fs
-    → _≡_ {A = ResonatorSvf × List Float} (z, temp2') (scan (fill (lowOf k)) s temp temp2)
-    → aux' ≡ added (scan (fill (lowOf k)) s temp temp2 .1) aux
-    → _≡_ {A = (List Float × List Float) × List Float} ((one, two), out') (scan (frameOf m) (u .«state_1», u .«state_2») (scan (fill (lowOf k)) s temp temp2 .1) out)
+    → _≡_ {A = Sung} (record { filter = z; «state_1» = one; «state_2» = two; temp2 = temp2'; out = out'; aux = aux' }) (sungOf k s m (u .«state_1») (u .«state_2») temp temp2 out aux)
     → gs ≡ filtersOf one two
     → _≡_ {A = Framed} (record { filter = z; «mode_filters» = gs; temp2 = temp2'; out = out'; aux = aux' }) (framesOf k s m fs temp temp2 out aux)
-unfolding framesOf onePass lowBlock
-all-frames k s m fs temp temp2 out aux es et ea eo eg =
-    let ho = eo ∙ ap (λ (v : States). scan (frameOf m) (v .«state_1», v .«state_2») (scan (fill (lowOf k)) s temp temp2 .1) out) es in
-    let hg = eg ∙ ap (λ (q : (List Float × List Float) × List Float). filtersOf (q .0 .0) (q .0 .1)) ho in
-    λ j. record { filter = et j .0; «mode_filters» = hg j; temp2 = et j .1; out = ho j .1; aux = ea j }
+unfolding framesOf onePass sungOf
+all-frames k s m fs temp temp2 out aux es eg ef =
+    let e = eg ∙ ap (λ (v : States). sungOf k s m (v .«state_1») (v .«state_2») temp temp2 out aux) es in
+    let hf = ef ∙ ap (λ (q : Sung). filtersOf (q .«state_1») (q .«state_2»)) e in
+    λ j. record { filter = e j .filter; «mode_filters» = hf j; temp2 = e j .temp2; out = e j .out; aux = e j .aux }
 
 -- ---- what the loop leaves, as the halves leave it
 module _ (k : Mode) (s : ResonatorSvf) (m : Modes) (fs : List Batch) (temp temp2 out aux : List Float)

@@ -7,8 +7,7 @@ ghost use lib.Ieee.{nan};
 ghost use Rattle.ground.specs.F32.{_⊗_, c0·7, c1·5, c2, c4, c36, c60};
 ghost use Rattle.ground.specs.Draw.{ret, run, Ran};
 ghost use Rattle.noise.specs.Excitation.{Alike};
-ghost use Rattle.modes.specs.Subnormal.{isSmall};
-ghost use Rattle.modal_voice.specs.OneLoop.{Framed, framesOf, sameMemory, passOf, Stays, aheadOf};
+ghost use Rattle.modal_voice.specs.OneLoop.{Framed, framesOf, Sung, sungOf, sameMemory, passOf, Stays, aheadOf};
 ghost use Rattle.modal_voice.specs.ModalVoice.{voiceNew, voiceInit, cutoffFor, strikeOf, clicked, excitation, heldAfter, excitationWords, excitationCounts, Excited, exciteOf, Sounded, soundOf, After, renderOf};
 use modes::resonator::Batch;
 use modes::resonator::Mode;
@@ -135,7 +134,7 @@ fn counts_of(sustain: bool, n: usize) -> Counts
     }
 }
 
-// The excitation filter after a frame, what it gave there, and whether its memory is small and stands.
+// The excitation filter after a frame, what it gave there, and whether its memory stands.
 pub struct Ahead {
     pub svf: ResonatorSvf,
     pub x: f32,
@@ -158,30 +157,16 @@ fn stands(s: ResonatorSvf, t: ResonatorSvf) -> bool
     false
 }
 
-// A sample through the excitation filter, whose memory is not small.
-fn pass_loud(k: Mode, s: ResonatorSvf, in_: f32) -> Ahead
-    requires { ⌜ isSmall s ≡ false ⌝ }
+// A sample through the excitation filter; `around` subnormal products where its memory is small.
+fn pass(around: bool, k: Mode, s: ResonatorSvf, in_: f32) -> Ahead
     ensures { λ r. ⌜ (r ≡ passOf k s in_) × Stays k r in_ ⌝ }
 {
-    let t = modes::resonator::tick(k, s, in_);
+    let small = around & modes::resonator::is_small(s);
+    let t = modes::resonator::tick_at(small, k, s, in_);
     let svf = t.svf;
     Ahead {
         svf,
-        x: 0.0 + k.gain * t.lp,
-        stands: false,
-    }
-}
-
-// The same where it is small.
-fn pass_small(k: Mode, s: ResonatorSvf, in_: f32) -> Ahead
-    requires { ⌜ isSmall s ≡ true ⌝ }
-    ensures { λ r. ⌜ (r ≡ passOf k s in_) × Stays k r in_ ⌝ }
-{
-    let t = modes::resonator::tick_at(true, k, s, in_);
-    let svf = t.svf;
-    Ahead {
-        svf,
-        x: 0.0 + modes::resonator::scale(true, k.gain, t.lp),
+        x: 0.0 + modes::resonator::scale(small, k.gain, t.lp),
         stands: stands(s, svf),
     }
 }
@@ -191,10 +176,7 @@ fn filter_first(k: Mode, s: ResonatorSvf, temp: &[f32]) -> Ahead
     ensures { λ r. ⌜ (r ≡ aheadOf k s (now (temp .entry)) 0) × Stays k r (getD (now (temp .entry)) 0 nan) ⌝ }
 {
     if 0 < temp.len() {
-        if modes::resonator::is_small(s) {
-            return pass_small(k, s, temp[0]);
-        }
-        return pass_loud(k, s, temp[0]);
+        return pass(false, k, s, temp[0]);
     }
     Ahead {
         svf: s,
@@ -204,7 +186,7 @@ fn filter_first(k: Mode, s: ResonatorSvf, temp: &[f32]) -> Ahead
 }
 
 // The excitation filter past the frame i + 1, where o is the filter past the frame i.
-fn filter_on(k: Mode, o: Ahead, temp: &[f32], i: usize) -> Ahead
+fn filter_on(around: bool, k: Mode, o: Ahead, temp: &[f32], i: usize) -> Ahead
     requires { ⌜ Stays k o (getD (now temp) i nan) × (i < length (now temp)) ⌝ }
     ensures { λ r. ⌜ (r ≡ aheadOf k (o .svf) (now (temp .entry)) (i + 1)) × Stays k r (getD (now (temp .entry)) (i + 1) nan) ⌝ }
 {
@@ -215,10 +197,7 @@ fn filter_on(k: Mode, o: Ahead, temp: &[f32], i: usize) -> Ahead
                 return o;
             }
         }
-        if modes::resonator::is_small(svf) {
-            return pass_small(k, svf, temp[i + 1]);
-        }
-        return pass_loud(k, svf, temp[i + 1]);
+        return pass(around, k, svf, temp[i + 1]);
     }
     Ahead {
         svf,
@@ -227,8 +206,133 @@ fn filter_on(k: Mode, o: Ahead, temp: &[f32], i: usize) -> Ahead
     }
 }
 
-// Both halves' loops as one. The excitation filter is a frame ahead of the modes, so that neither waits for the other.
+// Each frame, with subnormal products as they come. The excitation filter is a frame ahead of the modes, so that neither waits for the other.
+fn frames_plain(
+    k: Mode,
+    s: ResonatorSvf,
+    g: &[f32; 24],
+    r_plus_g: &[f32; 24],
+    h: &[f32; 24],
+    gain: &[f32; 24],
+    state_1: &mut [f32; 24],
+    state_2: &mut [f32; 24],
+    temp: &[f32],
+    temp_2: &mut [f32],
+    out: &mut [f32],
+    aux: &mut [f32],
+) -> ResonatorSvf
+    requires { ⌜ Alike (now temp) (now «temp_2») (now out) (now aux) × (length (now «state_1») ≡ 24) × (length (now «state_2») ≡ 24) ⌝ }
+    ensures { λ r. ⌜ record { filter = r; «state_1» = now («state_1» .exit); «state_2» = now («state_2» .exit); temp2 = now («temp_2» .exit); out = now (out .exit); aux = now (aux .exit) } ≡ sungOf k s (record { g = now (g .entry); «r_plus_g» = now («r_plus_g» .entry); h = now (h .entry); gain = now (gain .entry) }) (now («state_1» .entry)) (now («state_2» .entry)) (now (temp .entry)) (now («temp_2» .entry)) (now (out .entry)) (now (aux .entry)) ⌝ }
+{
+    let n = temp.len();
+    let mut filter = s;
+    let mut ahead = filter_first(k, filter, temp);
+    let mut i = 0;
+    while i < n {
+        let x = ahead.x;
+        ahead = filter_on(false, k, ahead, temp, i);
+        filter = ahead.svf;
+        temp_2[i] = x;
+        aux[i] += x;
+        out[i] = modes::resonator::frame_loud(g, r_plus_g, h, gain, state_1, state_2, x, out[i]);
+        i += 1;
+    }
+    filter
+}
+
+// The same, around subnormal products.
+fn frames_around(
+    k: Mode,
+    s: ResonatorSvf,
+    g: &[f32; 24],
+    r_plus_g: &[f32; 24],
+    h: &[f32; 24],
+    gain: &[f32; 24],
+    state_1: &mut [f32; 24],
+    state_2: &mut [f32; 24],
+    temp: &[f32],
+    temp_2: &mut [f32],
+    out: &mut [f32],
+    aux: &mut [f32],
+) -> ResonatorSvf
+    requires { ⌜ Alike (now temp) (now «temp_2») (now out) (now aux) × (length (now «state_1») ≡ 24) × (length (now «state_2») ≡ 24) ⌝ }
+    ensures { λ r. ⌜ record { filter = r; «state_1» = now («state_1» .exit); «state_2» = now («state_2» .exit); temp2 = now («temp_2» .exit); out = now (out .exit); aux = now (aux .exit) } ≡ sungOf k s (record { g = now (g .entry); «r_plus_g» = now («r_plus_g» .entry); h = now (h .entry); gain = now (gain .entry) }) (now («state_1» .entry)) (now («state_2» .entry)) (now (temp .entry)) (now («temp_2» .entry)) (now (out .entry)) (now (aux .entry)) ⌝ }
+{
+    let mut quiet = Quiet {
+        low: false,
+        high: false,
+    };
+    let n = temp.len();
+    let mut filter = s;
+    let mut ahead = filter_first(k, filter, temp);
+    let mut i = 0;
+    while i < n {
+        let x = ahead.x;
+        ahead = filter_on(true, k, ahead, temp, i);
+        filter = ahead.svf;
+        temp_2[i] = x;
+        aux[i] += x;
+        quiet = modes::resonator::quiet_at(quiet, state_1, state_2, x, i);
+        out[i] = modes::resonator::frame(quiet, g, r_plus_g, h, gain, state_1, state_2, x, out[i]);
+        i += 1;
+    }
+    filter
+}
+
+// The one or the other.
+fn frames_at(
+    around: bool,
+    k: Mode,
+    s: ResonatorSvf,
+    g: &[f32; 24],
+    r_plus_g: &[f32; 24],
+    h: &[f32; 24],
+    gain: &[f32; 24],
+    state_1: &mut [f32; 24],
+    state_2: &mut [f32; 24],
+    temp: &[f32],
+    temp_2: &mut [f32],
+    out: &mut [f32],
+    aux: &mut [f32],
+) -> ResonatorSvf
+    requires { ⌜ Alike (now temp) (now «temp_2») (now out) (now aux) × (length (now «state_1») ≡ 24) × (length (now «state_2») ≡ 24) ⌝ }
+    ensures { λ r. ⌜ record { filter = r; «state_1» = now («state_1» .exit); «state_2» = now («state_2» .exit); temp2 = now («temp_2» .exit); out = now (out .exit); aux = now (aux .exit) } ≡ sungOf k s (record { g = now (g .entry); «r_plus_g» = now («r_plus_g» .entry); h = now (h .entry); gain = now (gain .entry) }) (now («state_1» .entry)) (now («state_2» .entry)) (now (temp .entry)) (now («temp_2» .entry)) (now (out .entry)) (now (aux .entry)) ⌝ }
+{
+    if around {
+        return frames_around(
+            k,
+            s,
+            g,
+            r_plus_g,
+            h,
+            gain,
+            state_1,
+            state_2,
+            temp,
+            temp_2,
+            out,
+            aux,
+        );
+    }
+    frames_plain(
+        k,
+        s,
+        g,
+        r_plus_g,
+        h,
+        gain,
+        state_1,
+        state_2,
+        temp,
+        temp_2,
+        out,
+        aux,
+    )
+}
+
+// Both halves' loops as one.
 fn sound_frames(
+    around: bool,
     k: Mode,
     s: ResonatorSvf,
     m: Modes,
@@ -248,34 +352,21 @@ fn sound_frames(
     let states = modes::resonator::states_of(mode_filters);
     let mut state_1 = states.state_1;
     let mut state_2 = states.state_2;
-    let mut quiet = Quiet {
-        low: false,
-        high: false,
-    };
-    let n = temp.len();
-    let mut filter = s;
-    let mut ahead = filter_first(k, filter, temp);
-    let mut i = 0;
-    while i < n {
-        let x = ahead.x;
-        ahead = filter_on(k, ahead, temp, i);
-        filter = ahead.svf;
-        temp_2[i] = x;
-        aux[i] += x;
-        quiet = modes::resonator::quiet_at(quiet, &state_1, &state_2, x, i);
-        out[i] = modes::resonator::frame(
-            quiet,
-            &g,
-            &r_plus_g,
-            &h,
-            &gain,
-            &mut state_1,
-            &mut state_2,
-            x,
-            out[i],
-        );
-        i += 1;
-    }
+    let filter = frames_at(
+        around,
+        k,
+        s,
+        &g,
+        &r_plus_g,
+        &h,
+        &gain,
+        &mut state_1,
+        &mut state_2,
+        temp,
+        temp_2,
+        out,
+        aux,
+    );
     let after = modes::resonator::filters_of(&state_1, &state_2);
     Filtered {
         filter,
@@ -361,9 +452,10 @@ impl ModalVoice {
         }
     }
 
-    // Both halves, their loops as one.
+    // Both halves, their loops as one; `around` subnormal products or not, which changes no bit.
     pub fn render(
         self,
+        around: bool,
         k: Knobs,
         temp: &mut [f32],
         temp_2: &mut [f32],
@@ -398,7 +490,17 @@ impl ModalVoice {
         let modes = modes::resonator::modes_for(amplitude, k.f0, k.structure, brightness, damping);
         let filter = self.excitation_filter;
         let before_filters = resonator.mode_filters;
-        let s = sound_frames(mode, filter, modes, before_filters, temp, temp_2, out, aux);
+        let s = sound_frames(
+            around,
+            mode,
+            filter,
+            modes,
+            before_filters,
+            temp,
+            temp_2,
+            out,
+            aux,
+        );
         let excitation_filter = s.filter;
         let mode_filters = s.mode_filters;
         let resonator = Resonator {

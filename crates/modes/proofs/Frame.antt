@@ -5,7 +5,9 @@ use mathlib.Core.Bool.{Bool, true, false}
 use Prim.Native.Nat.{ℕ, zero, suc, _+_, _-_, _≤_, _<_}
 use native.Mathlib.Omega.{arith}
 use lib.ListN.{getD, length, set}
-use lib.Ieee.{Float, nan}
+use lib.Dec.{T}
+use lib.Ieee.{Float, nan, binary32, fits}
+use lib.Ieee.Fits.{mul-fits}
 use Rattle.ground.specs.F32.{_⊕_, _⊖_, _⊗_, c1, c2}
 use Rattle.ground.proofs.Tab.{Stored, stored-read, stored-turn, length-tab}
 use Rattle.modes.specs.declared.resonator.Mode.{Mode}
@@ -14,7 +16,8 @@ use Rattle.modes.specs.declared.resonator.Ticked.{Ticked}
 use Rattle.modes.specs.declared.resonator.Modes.{Modes}
 use Rattle.modes.specs.declared.resonator.Partial.{Partial}
 use Rattle.modes.specs.Resonator.{tickOf, capOf, frequency, resonance, amplitude}
-use Rattle.modes.specs.OnePass.{Bands, modeIn, stateAt, tickIn, bandsOf, placeOf, placesOf, plainOf, addBatches, frameOf}
+use Rattle.modes.specs.OnePass.{Bands, modeIn, stateAt, tickIn, bandsOf, placeOf, placesOf, plainOf, addBare, frameOf}
+use Rattle.modes.proofs.Bare.{add-bare, tab-fits}
 
 -- what the loop over the modes stores at a mode, where it stands at p as at p'
 module _ {p p' : Partial} {v : Float} (e : v ≡ capOf (p .harmonic ⊗ p .«stretch_factor»)) (s : p ≡ p') where
@@ -121,10 +124,17 @@ bands-sizes k one two x e = (
   ap (λ (b : Bands). length (b .bands)) e ∙ length-tab 24 (λ t. getD (k .gain) t nan ⊗ tickIn k one two x t .bp),
 )
 
+-- each band is an f32, as a product is
+bands-fit : (k : Modes) (one two : List Float) (x : Float) (t : ℕ) → T (fits binary32 (getD (bandsOf k one two x .bands) t nan))
+unfolding bandsOf
+bands-fit k one two x = tab-fits 24 (λ t. getD (k .gain) t nan ⊗ tickIn k one two x t .bp) (λ t. mul-fits binary32 (getD (k .gain) t nan) (tickIn k one two x t .bp))
+
 -- a frame: all modes, then the sums of the batches
-pub framed : {b : Bands} {z : Float} (k : Modes) (one two : List Float) (x y : Float) → b ≡ bandsOf k one two x → z ≡ addBatches y (b .bands)
+pub framed : {b : Bands} {z : Float} (k : Modes) (one two : List Float) (x y : Float) → T (fits binary32 y) → b ≡ bandsOf k one two x → z ≡ addBare y (b .bands)
     → _≡_ {A = (List Float × List Float) × Float} ((b .«state_1», b .«state_2»), z) (frameOf k (one, two) x y)
-framed k one two x y e s = λ j. ((e j .«state_1», e j .«state_2»), (s ∙ ap (λ (b : Bands). addBatches y (b .bands)) e) j)
+framed k one two x y f e s =
+    let r = s ∙ ap (λ (b : Bands). addBare y (b .bands)) e ∙ add-bare (bandsOf k one two x .bands) (bands-fit k one two x) y f in
+    λ j. ((e j .«state_1», e j .«state_2»), r j)
 
 pub frame-sizes : {one' two' : List Float} {z : Float} (k : Modes) (one two : List Float) (x y : Float)
     → _≡_ {A = (List Float × List Float) × Float} ((one', two'), z) (frameOf k (one, two) x y) → (length one' ≡ 24) × (length two' ≡ 24)

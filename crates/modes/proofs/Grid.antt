@@ -6,7 +6,7 @@ use native.Mathlib.Omega.{arith}
 use mathlib.Core.Bool.{Bool, true, false, not, _&&_, _||_, cond, Bool·beq, true≢false, false≢true}
 use lib.IntN.{ℤ, pos, negsuc}
 use lib.Dec.{T, ltb, leb, eqb, nltb→le, ltb→lt, lt→ltb, leb→le, eqb→eq, lit<, lit≤}
-use lib.Pow.{pow-add, pow-pos, pow-mono}
+use lib.Pow.{pow-add, pow-pos, pow-mono, pow-lt}
 use lib.Ieee.{Float, nan, inf, fin, Format, binary32, binary64, prec, emax, low, up, down, unlike, size, nearest, units, round, sum, add, sub, mul, lt, eq, fits, isNan, ofBits}
 use lib.Ieee.Digits.{size-lt, size-le}
 use lib.Ieee.Fits.{down-pos, up-pos, core, nearest-le, round-is, round-fits, mul-fits, sub-fits, neg-fits, fits-widens, and-i, and-l, and-r}
@@ -367,27 +367,21 @@ module _ (a d : ℕ) (D : 0 < d) (h : a * 2 ^ 126 < d) where
   grid-value true p v = grid-under p v
 
 -- ---- a product of two f32 is exact in f64
--- 2 ^ e as a whole power of two over 2 ^ 537
-raised : (e : ℤ) → down e ≤ 2 ^ 149 → (i : ℕ) × (2 ^ i * down e ≡ up e * 2 ^ 537)
-raised (pos k) h = (k + 537, mul-one (2 ^ (k + 537)) ∙ pow-add 2 k 537)
-raised (negsuc k) h =
-    let l : suc k ≤ 537 = le-of-not-lt (λ (g : 537 < suc k). not-le-of-lt (lt-of-lt-of-le (lit< tt) (pow-mono (lt→le' g))) h) in
-    (537 - suc k, sym (pow-add 2 (537 - suc k) (suc k)) ∙ ap (λ (x : ℕ). 2 ^ x) (whole (suc k) l) ∙ one (2 ^ 537))
+-- 2 ^ e as a whole power of two over 2 ^ l
+pub raised : (l : ℕ) (e : ℤ) → down e ≤ 2 ^ l → (i : ℕ) × (2 ^ i * down e ≡ up e * 2 ^ l)
+raised l (pos k) h = (k + l, mul-one (2 ^ (k + l)) ∙ pow-add 2 k l)
+raised l (negsuc k) h =
+    let g : suc k ≤ l = le-of-not-lt (λ (g : l < suc k). not-le-of-lt (pow-lt g) h) in
+    (l - suc k, sym (pow-add 2 (l - suc k) (suc k)) ∙ ap (λ (x : ℕ). 2 ^ x) (whole (suc k) g) ∙ sym (one-mul (2 ^ l)))
   where
-    whole : (k : ℕ) → k ≤ 537 → 537 - k + k ≡ 537
-    whole k l = omega arith
+    whole : (k : ℕ) → k ≤ l → l - k + k ≡ l
+    whole k g = omega arith
 
-    one : (x : ℕ) → x ≡ 1 * x
-    one x = omega arith
-
-    lt→le' : {k : ℕ} → 537 < k → 150 ≤ k
-    lt→le' g = omega arith
-
-    le-of-not-lt : {k : ℕ} → (537 < k → ⊥) → k ≤ 537
+    le-of-not-lt : {k : ℕ} → (l < k → ⊥) → k ≤ l
     le-of-not-lt g = omega (arith, g)
 
 -- what a finite f32 is
-held : (s : Bool) (m : ℕ) (e : ℤ) → T (fits binary32 (fin s m e)) → (m < 2 ^ 24) × (down e ≤ 2 ^ 149) × (m * up e < 2 ^ 128 * down e)
+pub held : (s : Bool) (m : ℕ) (e : ℤ) → T (fits binary32 (fin s m e)) → (m < 2 ^ 24) × (down e ≤ 2 ^ 149) × (m * up e < 2 ^ 128 * down e)
 unfolding fits
 held s zero e t = subst (λ (e : ℤ). (0 < 2 ^ 24) × (down e ≤ 2 ^ 149) × (0 * up e < 2 ^ 128 * down e)) (sym (zero-exp binary32 s e t)) (lit< tt, lit≤ tt, lit< tt)
 held s (suc m) e t =
@@ -420,8 +414,8 @@ unfolding mul
 product-value s t m n e g p q =
     let a = held s m e p in
     let b = held t n g q in
-    let i = raised e (a .1) in
-    let j = raised g (b .1) in
+    let i = raised 537 e (le-trans (a .1) (lit≤ tt)) in
+    let j = raised 537 g (le-trans (b .1) (lit≤ tt)) in
     let x = 2 ^ i .0 in
     let y = 2 ^ j .0 in
     let w : m * n * 2 ^ (i .0 + j .0) ≡ m * n * (x * y) = ap (λ (z : ℕ). m * n * z) (pow-add 2 (i .0) (j .0)) in

@@ -4,3 +4,4 @@ pub mod OnePass
 pub mod Unique
 pub mod Mirror
 pub mod Grid
+pub mod Bare

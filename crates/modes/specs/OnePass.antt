@@ -164,6 +164,14 @@ batchSum p b = c0 ⊕ getD p b nan ⊕ getD p (6 + b) nan ⊕ getD p (12 + b) na
 unfoldable pub addBatches : Float → List Float → Float
 addBatches y p = y ⊕ batchSum p 0 ⊕ batchSum p 1 ⊕ batchSum p 2 ⊕ batchSum p 3 ⊕ batchSum p 4 ⊕ batchSum p 5
 
+-- the sum of the batch b with no +0 before it
+unfoldable pub bareSum : List Float → ℕ → Float
+bareSum p b = getD p b nan ⊕ getD p (6 + b) nan ⊕ getD p (12 + b) nan ⊕ getD p (18 + b) nan
+
+-- +0 added to y, then the sum of each batch in turn
+unfoldable pub addBare : Float → List Float → Float
+addBare y p = y ⊕ c0 ⊕ bareSum p 0 ⊕ bareSum p 1 ⊕ bareSum p 2 ⊕ bareSum p 3 ⊕ bareSum p 4 ⊕ bareSum p 5
+
 abbrev pub frameOf : Modes → List Float × List Float → Float → Float → (List Float × List Float) × Float
 frameOf k s x y = let b = bandsOf k (s .0) (s .1) x in ((b .«state_1», b .«state_2»), addBatches y (b .bands))
 

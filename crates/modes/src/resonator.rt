@@ -5,7 +5,7 @@ ghost use lib.ListN.{length};
 ghost use Rattle.ground.specs.F32.{_⊗_};
 ghost use Rattle.modes.specs.Subnormal.{isSmall};
 ghost use Rattle.modes.specs.Resonator.{svfNew, modeOf, tickOf, lowBlock, filtersNew, resonatorNew, resonatorInit, capOf, shrunk, nextOf, compensation, firstOf, lossOf, processOf};
-ghost use Rattle.modes.specs.OnePass.{tuned, modesOf, modesFor, putBatch, statesOf, stateAt, batchAt, filtersOf, Bands, bandsOf, placesOf, smallFour, smallPair, quietOf, quietAt, plainOf, batchSum, addBatches, frameOf, onePass};
+ghost use Rattle.modes.specs.OnePass.{tuned, modesOf, modesFor, putBatch, statesOf, stateAt, batchAt, filtersOf, Bands, bandsOf, placesOf, smallFour, smallPair, quietOf, quietAt, plainOf, bareSum, addBare, frameOf, onePass};
 use crate::subnormal::product;
 use utils::filter::FrequencyApproximation;
 
@@ -615,7 +615,7 @@ fn tick_rows(
 }
 
 // A frame, none of whose modes is tested.
-fn frame_loud(
+pub fn frame_loud(
     g: &[f32; 24],
     r_plus_g: &[f32; 24],
     h: &[f32; 24],
@@ -677,16 +677,17 @@ pub fn frame(
 // The sum of the batch b.
 fn batch_sum(bands: &[f32; 24], b: usize) -> f32
     requires { ⌜ b < 6 ⌝ }
-    ensures { λ r. ⌜ r ≡ batchSum (now (bands .entry)) b ⌝ }
+    ensures { λ r. ⌜ r ≡ bareSum (now (bands .entry)) b ⌝ }
 {
-    0.0 + bands[b] + bands[6 + b] + bands[12 + b] + bands[18 + b]
+    bands[b] + bands[6 + b] + bands[12 + b] + bands[18 + b]
 }
 
-// The sum of each batch, added to y in turn.
+// The sum of each batch, added to y in turn; 0.0 is added once, to y, so that none of the sums has to begin with it.
 pub fn add_batches(y: f32, bands: &[f32; 24]) -> f32
-    ensures { λ r. ⌜ r ≡ addBatches y (now (bands .entry)) ⌝ }
+    ensures { λ r. ⌜ r ≡ addBare y (now (bands .entry)) ⌝ }
 {
     y
+        + 0.0
         + batch_sum(bands, 0)
         + batch_sum(bands, 1)
         + batch_sum(bands, 2)

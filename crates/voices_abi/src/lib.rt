@@ -95,6 +95,7 @@ pub extern "C" fn modals_render(
     out: &mut [f32],
     aux: &mut [f32],
     word: u32,
+    slow_subnormals: bool,
 ) -> u32
     ensures { λ r. ⌜ run (modalBlocks (record {
       sustain = sustain;
@@ -125,7 +126,7 @@ pub extern "C" fn modals_render(
     let mut drawn = word;
     let mut i = 0;
     while i < blocks {
-        let r = voice.render(k, temp, temp_2, out, aux, drawn);
+        let r = voice.render(slow_subnormals, k, temp, temp_2, out, aux, drawn);
         voice = r.voice;
         drawn = r.word;
         i += 1;

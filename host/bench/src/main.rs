@@ -19,6 +19,8 @@ mod strings;
 
 #[cfg(not(any(no_plaits, no_leaves)))]
 fn main() -> ExitCode {
+    let slow = if bleidhvan::slow_subnormals() { "yes" } else { "no" };
+    println!("subnormal products are slow on this processor: {slow}");
     run::all();
     strings::all();
     modals::all();

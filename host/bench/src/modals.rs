@@ -27,6 +27,7 @@ unsafe extern "C" {
         aux: *mut f32,
         aux_len: usize,
         word: u32,
+        slow_subnormals: bool,
     ) -> u32;
 }
 
@@ -68,6 +69,7 @@ fn port(setting: Setting, blocks: usize, word: u32, buffers: &mut Buffers) -> u3
             aux.as_mut_ptr(),
             aux.len(),
             word,
+            bleidhvan::slow_subnormals(),
         )
     }
 }

@@ -2,6 +2,7 @@
 
 use crate::raw::{self, Answer};
 use crate::refusal::{Knob, Refusal};
+use crate::subnormal::slow_subnormals;
 
 /// What a slot is opened with.
 #[derive(Debug, Clone, Copy, PartialEq, Eq, Hash)]
@@ -149,8 +150,15 @@ impl Bank {
         buffers: Buffers<'_>,
     ) -> Result<Counts, Refusal> {
         let lengths = buffers.each_ref().map(|buffer| buffer.len());
-        let Answer { number, counts } =
-            raw::render(&mut self.bytes, &mut self.lines, &mut self.word, slot, knobs, buffers);
+        let Answer { number, counts } = raw::render(
+            &mut self.bytes,
+            &mut self.lines,
+            &mut self.word,
+            slot,
+            knobs,
+            buffers,
+            slow_subnormals(),
+        );
         refused(number, || Asked { slot, lengths, knobs: *knobs, ..Asked::default() })?;
         Ok(counts)
     }

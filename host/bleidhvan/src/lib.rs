@@ -23,7 +23,9 @@ mod bank;
 pub mod raw;
 mod refusal;
 mod saved;
+mod subnormal;
 
 pub use bank::{Bank, Buffers, Counts, Kind, Knobs};
 pub use refusal::{Knob, Refusal};
 pub use saved::LoadError;
+pub use subnormal::slow_subnormals;

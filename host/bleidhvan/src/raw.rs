@@ -72,6 +72,7 @@ mod exported {
             burst: &mut usize,
             dust: &mut usize,
             dispersion: &mut usize,
+            slow_subnormals: bool,
         ) -> u32;
     }
 
@@ -117,6 +118,11 @@ mod exported {
     }
 
     /// Renders a block of a slot's voice; the word is the generator's.
+    ///
+    /// `slow_subnormals` is whether this processor takes long over subnormal numbers, as [`slow_subnormals`] finds out: either value
+    /// gives the same bits.
+    ///
+    /// [`slow_subnormals`]: crate::slow_subnormals
     pub fn render(
         bank: &mut [u8],
         lines: &mut [f32],
@@ -124,6 +130,7 @@ mod exported {
         slot: usize,
         knobs: &Knobs,
         buffers: Buffers<'_>,
+        slow_subnormals: bool,
     ) -> Answer {
         let Knobs { sustain, trigger, accent, f0, structure, brightness, damping } = *knobs;
         let [temp, temp_2, out, aux] = buffers;
@@ -155,6 +162,7 @@ mod exported {
                 &mut burst,
                 &mut dust,
                 &mut dispersion,
+                slow_subnormals,
             )
         };
         Answer { number, counts: Counts { burst, dust, dispersion } }

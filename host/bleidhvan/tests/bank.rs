@@ -1,5 +1,6 @@
 //! The wrapper as its users call it.
 
+use bleidhvan::raw::{self, Answer, SLOT_BYTES};
 use bleidhvan::{Bank, Counts, Kind, Knob, Knobs, LoadError, Refusal};
 
 /// A block of n frames of a slot: out, or why it was refused.
@@ -88,6 +89,46 @@ fn every_knob_is_refused_beyond_its_range_and_accepted_at_its_ends() {
             }
         }
     }
+}
+
+/// All that a call leaves: the answer, the bank, the generator's word, the bits of line memory and of the four buffers.
+type Left = (Answer, Vec<u8>, u32, Vec<u32>, Vec<u32>);
+
+/// What each block of 4,096 frames of a modal voice leaves, struck in the first one, until the sound is subnormal.
+fn dying_away(slow_subnormals: bool) -> Vec<Left> {
+    let bits = |floats: &[f32]| -> Vec<u32> { floats.iter().map(|x| x.to_bits()).collect() };
+    let bank = both();
+    let (mut bytes, mut lines, mut word) =
+        (bank.bytes().to_vec(), bank.lines().to_vec(), bank.word());
+    let block = |k| {
+        let mut buffers = [0; 4].map(|_| vec![0.0; 4096]);
+        let knobs = Knobs { trigger: k == 0, damping: 0.2, ..Knobs::default() };
+        let lent = buffers.each_mut().map(|buffer| &mut buffer[..]);
+        let answer =
+            raw::render(&mut bytes, &mut lines, &mut word, 1, &knobs, lent, slow_subnormals);
+        (answer, bytes.clone(), word, bits(&lines), bits(&buffers.concat()))
+    };
+    (0..64).map(block).collect()
+}
+
+/// Whether one of the modes in slot 1 has a subnormal number.
+fn has_subnormal_mode(bank: &[u8]) -> bool {
+    let modes = bank[SLOT_BYTES..][200..392].chunks(4);
+    let mut floats = modes.map(|word| f32::from_le_bytes(word.try_into().expect("four bytes")));
+    floats.any(|x| x.is_subnormal())
+}
+
+#[test]
+fn slow_subnormals_changes_no_bit() {
+    let [blocks, others] = [true, false].map(dying_away);
+    for (k, (one, other)) in blocks.iter().zip(&others).enumerate() {
+        let (answer, bank, ..) = one;
+        assert_eq!(answer.number, 0, "block {k}");
+        assert!(has_subnormal_mode(bank), "block {k}");
+        assert!(one == other, "block {k}: the bits differ");
+    }
+    let (_, _, _, _, samples) = &blocks[63];
+    assert!(samples.iter().any(|word| f32::from_bits(*word).is_subnormal()));
 }
 
 #[test]

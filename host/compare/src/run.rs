@@ -42,21 +42,22 @@ struct Port {
     bytes: Vec<u8>,
     lines: Vec<f32>,
     word: u32,
+    /// What the next render is told of the processor.
+    slow: bool,
 }
 
 impl Port {
     fn call(&mut self, call: &Call, lines: usize, buffers: &mut Buffers) -> Answer {
+        let Port { bytes, lines: all, word, slow } = self;
         let slot = call.slot as usize;
-        let lines = &mut self.lines[..lines];
+        let lines = &mut all[..lines];
         let number = match call.asked {
-            Asked::Open { kind, sample_rate } => {
-                raw::open(&mut self.bytes, lines, slot, kind, sample_rate)
-            }
-            Asked::Reset => raw::reset(&mut self.bytes, lines, slot),
+            Asked::Open { kind, sample_rate } => raw::open(bytes, lines, slot, kind, sample_rate),
+            Asked::Reset => raw::reset(bytes, lines, slot),
             Asked::Render(render) => {
                 let buffers = buffers.each_mut().map(|buffer| &mut buffer[..]);
                 let knobs = knobs_of(&render);
-                return raw::render(&mut self.bytes, lines, &mut self.word, slot, &knobs, buffers);
+                return raw::render(bytes, lines, word, slot, &knobs, buffers, *slow);
             }
         };
         Answer { number, counts: Counts::default() }
@@ -82,7 +83,7 @@ pub fn run(mut list: List, tally: &mut Tally) -> Result<(), Difference> {
     let mut bytes = vec![0; raw::bank_bytes()];
     let number = raw::fresh(&mut bytes);
     let oracle = Bank::fresh(list.seed, lines.clone());
-    let port = Port { bytes: bytes.clone(), lines: lines.clone(), word: list.seed };
+    let port = Port { bytes: bytes.clone(), lines: lines.clone(), word: list.seed, slow: false };
     let mut sides = Sides { port, oracle, bytes, lines };
     let differs = |call| move |text| Difference { call, text };
     same("the number of a fresh bank", number, 0).map_err(differs(0))?;
@@ -92,8 +93,11 @@ pub fn run(mut list: List, tally: &mut Tally) -> Result<(), Difference> {
     tally.lists += 1;
     for (place, (call, lent)) in list.by_ref().enumerate() {
         tally.calls += 1;
+        let slow = place % 2 == 0;
+        sides.port.slow = slow;
         sides.step(&call, &lent, tally).map_err(|text| {
-            let text = format!("{text}\n  after {call:?}\n  lent {lent:?}");
+            let text =
+                format!("{text}\n  after {call:?}\n  lent {lent:?}\n  slow_subnormals {slow}");
             Difference { call: place, text }
         })?;
     }

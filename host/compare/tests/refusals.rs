@@ -149,7 +149,7 @@ impl Lent {
         Lent { bank, lines: any(lines, draws), buffers, word: draws.word() }
     }
 
-    fn call(&mut self, call: &Call) -> (u32, [usize; 3]) {
+    fn call(&mut self, call: &Call, slow: bool) -> (u32, [usize; 3]) {
         let Lent { bank, lines, buffers, word } = self;
         let slot = call.slot as usize;
         match call.asked {
@@ -161,7 +161,7 @@ impl Lent {
                 let Render { sustain, trigger, accent, f0, structure, brightness, damping, .. } = r;
                 let knobs = Knobs { sustain, trigger, accent, f0, structure, brightness, damping };
                 let buffers = buffers.each_mut().map(|buffer| &mut buffer[..]);
-                let answer = raw::render(bank, lines, word, slot, &knobs, buffers);
+                let answer = raw::render(bank, lines, word, slot, &knobs, buffers, slow);
                 let counts = answer.counts;
                 (answer.number, [counts.burst, counts.dust, counts.dispersion])
             }
@@ -187,11 +187,13 @@ fn any_bytes_any_lengths_any_knobs() {
         let lengths = lent.buffers.each_ref().map(Vec::len);
         let expected = number(&lent.bank, &call, lent.lines.len(), lengths);
         let (bank, bits) = (lent.bank.clone(), lent.bits());
-        let (number, counts) = lent.call(&call);
+        let slow = case % 2 == 0;
+        let (number, counts) = lent.call(&call, slow);
         assert_eq!(number, expected, "case {case}: {call:?}");
         seen[number as usize] += 1;
         if number != 0 {
             assert_eq!(counts, [0; 3], "case {case}: {call:?}");
+            assert_eq!(lent.call(&call, !slow), (number, counts), "case {case}: {call:?}");
             assert!(bank == lent.bank && bits == lent.bits(), "case {case}: {call:?}");
         } else {
             let own = SLOT_BYTES * slot as usize..SLOT_BYTES * (slot as usize + 1);
@@ -220,10 +222,12 @@ fn every_length_around_every_bound() {
         assert_eq!(raw::reset(&mut bank, &mut vec![0.0; length], 0), 1, "{length} numbers");
     }
     for (length, number) in [(0, 0), (1, 0), (4095, 0), (4096, 0), (4097, 8), (5000, 8)] {
-        let mut buffers = [0; 4].map(|_| vec![0.0; length]);
-        let buffers = buffers.each_mut().map(|buffer| &mut buffer[..]);
-        let knobs = Knobs::default();
-        let answer = raw::render(&mut bank, &mut [0.0; LINES], &mut 1, 0, &knobs, buffers);
-        assert_eq!(answer.number, number, "{length} frames");
+        for slow in [false, true] {
+            let mut buffers = [0; 4].map(|_| vec![0.0; length]);
+            let buffers = buffers.each_mut().map(|buffer| &mut buffer[..]);
+            let (mut lines, mut word, knobs) = ([0.0; LINES], 1, Knobs::default());
+            let answer = raw::render(&mut bank, &mut lines, &mut word, 0, &knobs, buffers, slow);
+            assert_eq!(answer.number, number, "{length} frames");
+        }
     }
 }

@@ -15,12 +15,12 @@ use Rattle.voices_abi.proofs.modals_render.Statement.{statement}
 use Rattle.voices_abi.proofs.modals_render.Tie as tie
 
 abbrev Inv-loop : tie.InvT-loop
-Inv-loop sustain trigger accent f0 structure brightness damping blocks temp₀ temp-2₀ out₀ aux₀ word k voice₀ drawn₀ i₀ temp temp-2 out aux voice drawn i =
+Inv-loop sustain trigger accent f0 structure brightness damping blocks temp₀ temp-2₀ out₀ aux₀ word slow-subnormals k voice₀ drawn₀ i₀ temp temp-2 out aux voice drawn i =
     Done (again k) (Sized (length out₀)) blocks (record { voice = voice₀; temp = temp₀; temp2 = temp-2₀; out = out₀; aux = aux₀ }) word i
     (record { voice = voice; temp = temp; temp2 = temp-2; out = out; aux = aux }) drawn
 
 abbrev μ-loop : tie.MeasureT-loop
-μ-loop sustain trigger accent f0 structure brightness damping blocks temp₀ temp-2₀ out₀ aux₀ word k voice₀ drawn₀ i₀ temp temp-2 out aux voice drawn i = blocks - i
+μ-loop sustain trigger accent f0 structure brightness damping blocks temp₀ temp-2₀ out₀ aux₀ word slow-subnormals k voice₀ drawn₀ i₀ temp temp-2 out aux voice drawn i = blocks - i
 
 alike-requires : tie.Need-alike-requires Inv-loop μ-loop
 alike-requires c κs = search needs

@@ -28,7 +28,7 @@ returns c = λ mem.
     let r = c .before .before .before .before .before .before .before .before .before .before .before .render in
     modal-moved mem (a .word) (a .slot) 1280 refl (a .k)
     (record { temp = now (a .temp); temp2 = now (a .temp-2); out = now (a .out); aux = now (a .aux) })
-    (record { temp = r .last .1 .1 .0; temp2 = r .last .1 .1 .1 .0; out = r .last .1 .1 .1 .1 .0; aux = r .last .1 .1 .1 .1 .1 .0 })
+    (record { temp = r .last .1 .1 .1 .0; temp2 = r .last .1 .1 .1 .1 .0; out = r .last .1 .1 .1 .1 .1 .0; aux = r .last .1 .1 .1 .1 .1 .1 .0 })
     (a .x) (r .result .voice) (r .result .counts) (r .result .word) (s .pre .0) (r .ensures)
 
 pub render-modal-spec : {M : Type 1} → statement M

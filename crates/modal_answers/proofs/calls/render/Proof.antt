@@ -7,6 +7,9 @@ use Rattle.modal_answers.proofs.calls.render.Tie as tie
 fill-requires : tie.Need-fill-requires
 fill-requires c κs = search needs
 
+array-read-around : tie.Need-array-read-around
+array-read-around c = search needs
+
 knobs-of-requires : tie.Need-knobs-of-requires
 knobs-of-requires c κs = search needs
 
@@ -45,6 +48,7 @@ render-spec =
     tie.close
     (tie.spec
     fill-requires
+    array-read-around
     knobs-of-requires
     array-read-render
     render-requires

@@ -1,5 +1,5 @@
 -- `resonator::add_batches` meets its contract.
-use Rattle.modes.specs.OnePass.{addBatches}
+use Rattle.modes.specs.OnePass.{addBare}
 use borrow.Author.Needs.{needs}
 use Rattle.modes.proofs.resonator.add_batches.Statement.{statement}
 use Rattle.modes.proofs.resonator.add_batches.Tie as tie
@@ -23,7 +23,7 @@ batch-sum-requires-6 : tie.Need-batch-sum-requires-6
 batch-sum-requires-6 c κs = search needs
 
 returns : tie.Need-returns
-unfolding addBatches
+unfolding addBare
 returns c = rw (c .batch-sum6 .ensures, c .before .batch-sum5 .ensures, c .before .before .batch-sum4 .ensures, c .before .before .before .batch-sum3 .ensures, c .before .before .before .before .batch-sum2 .ensures, c .before .before .before .before .before .batch-sum .ensures)
 
 pub add-batches-spec : {M : Type 1} → statement M

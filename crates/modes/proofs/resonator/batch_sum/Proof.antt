@@ -1,6 +1,6 @@
 -- `resonator::batch_sum` meets its contract.
 use mathlib.Core.Path.{refl}
-use Rattle.modes.specs.OnePass.{batchSum}
+use Rattle.modes.specs.OnePass.{bareSum}
 use borrow.Author.Needs.{needs}
 use Rattle.modes.proofs.resonator.batch_sum.Statement.{statement}
 use Rattle.modes.proofs.resonator.batch_sum.Tie as tie
@@ -39,7 +39,7 @@ element-copy-out-result-4 : tie.Need-element-copy-out-result-4
 element-copy-out-result-4 c = search needs
 
 returns : tie.Need-returns
-unfolding batchSum
+unfolding bareSum
 returns c = refl
 
 pub batch-sum-spec : {M : Type 1} → statement M

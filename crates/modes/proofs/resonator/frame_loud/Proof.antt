@@ -1,4 +1,5 @@
 -- `resonator::frame_loud` meets its contract.
+use denote.Floats.{passes}
 use denote.Ref.{now}
 use Rattle.modes.specs.declared.resonator.Modes.{Modes}
 use Rattle.modes.proofs.Frame.{framed}
@@ -14,9 +15,10 @@ add-batches-requires c κs = search needs
 
 returns : tie.Need-returns
 returns c =
-    let a = c .before .before .before .before .before .before .args in
+    let s = c .before .before .before .before .before .before in
+    let a = s .args in
     let k : Modes = record { g = now (a .g); «r_plus_g» = now (a .r-plus-g); h = now (a .h); gain = now (a .gain) } in
-    framed k (now (a .state-1)) (now (a .state-2)) (a .x) (a .y) (c .before .before .tick-all .ensures) (c .add-batches .ensures)
+    framed k (now (a .state-1)) (now (a .state-2)) (a .x) (a .y) (passes _ (s .good .1 .1 .1 .1 .1 .1 .1 .0 .1)) (c .before .before .tick-all .ensures) (c .add-batches .ensures)
 
 pub frame-loud-spec : {M : Type 1} → statement M
 frame-loud-spec = tie.close (tie.spec tick-all-requires add-batches-requires returns)

@@ -1,11 +1,14 @@
--- `modal_voice::pass_small` meets its contract.
+-- `modal_voice::pass` meets its contract.
 use mathlib.Core.Path.{sym, ap, _∙_}
 use Rattle.modes.specs.declared.resonator.ResonatorSvf.{ResonatorSvf}
 use Rattle.modal_voice.specs.OneLoop.{passOf}
 use Rattle.modal_voice.proofs.OneLoop.{filter-passed}
 use borrow.Author.Needs.{needs}
-use Rattle.modal_voice.proofs.modal_voice.pass_small.Statement.{statement}
-use Rattle.modal_voice.proofs.modal_voice.pass_small.Tie as tie
+use Rattle.modal_voice.proofs.modal_voice.pass.Statement.{statement}
+use Rattle.modal_voice.proofs.modal_voice.pass.Tie as tie
+
+is-small-requires : tie.Need-is-small-requires
+is-small-requires c κs = search needs
 
 tick-at-requires : tie.Need-tick-at-requires
 tick-at-requires c κs = search needs
@@ -18,11 +21,10 @@ stands-requires c κs = search needs
 
 returns : tie.Need-returns
 returns c =
-    let s = c .before .before .before .before in
-    let a = s .args in
+    let a = c .before .before .before .before .before .args in
     let f = c .stands .ensures in
-    let p = filter-passed (a .k) (a .s) (a .in-) {b = c .stands .result} (c .before .before .before .tick-at .ensures) (c .before .scale .ensures) (rw (s .pre) (f .0)) in
+    let p = filter-passed (a .k) (a .s) (a .in-) {b = c .stands .result} (c .before .before .before .tick-at .ensures) (c .before .scale .ensures) (f .0) in
     (p, λ t. ap (λ (s : ResonatorSvf). passOf (a .k) s (a .in-)) (sym (f .1 t)) ∙ sym p)
 
-pub pass-small-spec : {M : Type 1} → statement M
-pass-small-spec = tie.close (tie.spec tick-at-requires scale-requires stands-requires returns)
+pub pass-spec : {M : Type 1} → statement M
+pass-spec = tie.close (tie.spec is-small-requires tick-at-requires scale-requires stands-requires returns)
