@@ -653,7 +653,7 @@ fn frame_quiet(
     add_batches(y, &bands)
 }
 
-// The one or the other.
+// The one or the other; the one without is written out, since the compiler leaves a second call of `frame_loud` a call.
 pub fn frame(
     quiet: Quiet,
     g: &[f32; 24],
@@ -671,7 +671,9 @@ pub fn frame(
     if quiet.low | quiet.high {
         return frame_quiet(quiet.low, g, r_plus_g, h, gain, state_1, state_2, x, y);
     }
-    frame_loud(g, r_plus_g, h, gain, state_1, state_2, x, y)
+    let mut bands = [0.0f32; 24];
+    tick_all(g, r_plus_g, h, gain, state_1, state_2, &mut bands, x);
+    add_batches(y, &bands)
 }
 
 // The sum of the batch b.
