@@ -100,12 +100,16 @@ movedBy act s x word mem =
     let d = value m word in
     record { slot = d .voice .slot; word = ending m word; mem = withLines s (d .voice .lines) mem; bufs = d .bufs; counts = d .counts }
 
--- what the table has told of a render that it accepts, of a slot x
-pub record Ready (x : Slot) (mem : List Float) (slot : ℕ) (out : List Float) : Type 0 where
+-- what the table has told of a render that it accepts, of a string's voice
+pub record ReadyString (v : StringVoice) (mem : List Float) (slot : ℕ) (out : List Float) : Type 0 where
   pub slot-in : slot < 8
   pub size : length mem ≡ 10240
+  pub string : v .string .string < 1024
+  pub stretch : v .string .stretch < 256
+  pub short : length out ≤ 4096
+
+-- and of a slot x
+pub record Ready (x : Slot) (mem : List Float) (slot : ℕ) (out : List Float) : Type 0 where
   pub full : 0 < x .kind
   pub known : x .kind ≤ 2
-  pub string : x .string .string .string < 1024
-  pub stretch : x .string .string .stretch < 256
-  pub short : length out ≤ 4096
+  pub voice : ReadyString (x .string) mem slot out

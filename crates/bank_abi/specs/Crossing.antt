@@ -15,7 +15,7 @@ use Rattle.slots.specs.Slots.{fresh, slotAt}
 use Rattle.slots.specs.Calls.{Bufs, lent}
 use Rattle.slots.specs.Table.{Call, verdict, bad}
 use Rattle.bank.specs.World.{World, Event, movedBy, callDef}
-use Rattle.slot_bytes.specs.Layout.{parts, decodeBank, encodeBank, withBytes, encodeSlot}
+use Rattle.slot_bytes.specs.Layout.{SlotF32, parts, decodeBank, encodeBank, withBytes, encodeSlot}
 
 -- making a fresh bank: refused with 1 where the length is another
 unfoldable pub freshDef : List ℕ → ℕ × List ℕ
@@ -65,6 +65,11 @@ crossBy Accepted x c =
       bufs = m .bufs;
     }
 crossBy (Refused r) x c = record { number = reasonNumber r; counts = noCounts; after = x; bufs = lent (c .act) }
+
+-- what an accepted call gives, and that its slot is one that bytes can hold
+pub record Wrote (x : Crossing) (c : Call) (y : Crossed) : Type 0 where
+  pub is : crossBy Accepted x c ≡ y
+  pub held : SlotF32 (movedBy (c .act) (c .slot) (slotAt (decodeBank (x .bytes)) (c .slot)) (x .word) (x .mem) .slot)
 
 -- a call, by the table
 unfoldable pub crossDef : Crossing → Call → Crossed

@@ -9,6 +9,7 @@ ghost use Rattle.slot_bytes.specs.Layout.{encodeBank};
 ghost use Rattle.bank_abi.specs.Crossing.{freshDef, Gives};
 
 pub mod table;
+pub mod voices;
 
 use noise::excitation::Knobs;
 use slots::answers::Verdict;
@@ -81,9 +82,9 @@ pub extern "C" fn bleidhvan_reset(bytes: &mut [u8], lines: &mut [f32], slot: usi
     match verdict {
         Verdict::Refused(reason) => slots::answers::reason_number(reason),
         Verdict::Accepted => {
-            let x = slot_bytes::decode::nth(bytes, slot);
-            let y = bank::acts::reset(x, lines, slot);
-            slot_bytes::encode::put_nth(bytes, slot, y);
+            let voice = slot_bytes::decode::string_nth(bytes, slot);
+            let after = bank::acts::reset_string(voice, lines, slot);
+            slot_bytes::encode::put_string_nth(bytes, slot, after);
             0
         }
     }
@@ -141,10 +142,10 @@ pub extern "C" fn bleidhvan_render(
     match verdict {
         Verdict::Refused(reason) => slots::answers::reason_number(reason),
         Verdict::Accepted => {
-            let x = slot_bytes::decode::nth(bytes, slot);
-            let r = bank::acts::render(
+            let r = crate::voices::render(
                 slow_subnormals,
-                x,
+                kind,
+                bytes,
                 lines,
                 *word,
                 slot,
@@ -154,8 +155,6 @@ pub extern "C" fn bleidhvan_render(
                 out,
                 aux,
             );
-            let y = r.slot;
-            slot_bytes::encode::put_nth(bytes, slot, y);
             *word = r.word;
             let counts = r.counts;
             *burst = counts.burst;

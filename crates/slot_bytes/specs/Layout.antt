@@ -1,11 +1,11 @@
 -- A slot as 393 bytes: 98 words in the order of the records' fields, then the flag. A float is the word of its bits. A bank is eight slots. Assumes nothing.
-use mathlib.Core.Bool.{Bool, true, false}
+use mathlib.Core.Bool.{Bool, true, false, not, _&&_}
 use mathlib.Core.List.{List, [], _∷_, _++_, map}
 use mathlib.Core.Path.{_≡_}
 use Prim.Native.Nat.{ℕ, zero, suc, _+_, _*_}
 use lib.Dec.{T, eqb}
 use lib.ListN.{length, getD, take, drop}
-use lib.Ieee.{Float, binary32, fits, ofBits, toBits}
+use lib.Ieee.{Float, binary32, fits, isNan, ofBits, toBits}
 use Rattle.ground.specs.Frames.{tab}
 use Rattle.ground.specs.Part.{put}
 use Rattle.utils.specs.declared.filter.Svf.{Svf}
@@ -24,6 +24,14 @@ use Rattle.slot_bytes.specs.Words.{words, bytes, each}
 
 abbrev pub floatIn : List ℕ → ℕ → Float
 floatIn ws k = ofBits binary32 (getD ws k 0)
+
+-- n floats from the k-th word on
+abbrev pub floatsIn : List ℕ → ℕ → ℕ → List Float
+floatsIn ws k n = tab n (λ i. floatIn ws (k + i))
+
+unfoldable pub noNan : List Float → Bool
+noNan [] = true
+noNan (x ∷ xs) = not (isNan x) && noNan xs
 
 unfoldable pub svfIn : List ℕ → ℕ → Svf
 svfIn ws k =

@@ -151,7 +151,7 @@ fn filters_at(b: &[u8]) -> [Batch; 6]
     a
 }
 
-fn modal_at(b: &[u8]) -> ModalVoice
+pub fn modal_at(b: &[u8]) -> ModalVoice
     requires { ⌜ length (now b) ≡ 393 ⌝ }
     ensures { λ r. ⌜ r ≡ modalIn (words (now (b .entry))) (eqb (getD (now (b .entry)) 392 0) 1) ⌝ }
 {
@@ -191,4 +191,14 @@ pub fn nth(bytes: &[u8], slot: usize) -> Slot
     let from = 393 * slot;
     let to = from + 393;
     slot_at(&bytes[from..to])
+}
+
+// The string's voice of a slot of a bank.
+pub fn string_nth(bytes: &[u8], slot: usize) -> StringVoice
+    requires { ⌜ (slot < 8) × (length (now bytes) ≡ 3144) ⌝ }
+    ensures { λ r. ⌜ r ≡ slotAt (decodeBank (now (bytes .entry))) slot .string ⌝ }
+{
+    let from = 393 * slot;
+    let to = from + 393;
+    voice_at(&bytes[from..to])
 }

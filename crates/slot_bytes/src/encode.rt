@@ -2,10 +2,13 @@
 ghost use mathlib.Core.Path.{_≡_};
 ghost use Prim.Native.Nat.{_+_, _*_, _≤_, _<_};
 ghost use lib.ListN.{length};
+ghost use Rattle.slots.specs.Slots.{slotAt, withString};
 ghost use Rattle.slot_bytes.specs.Words.{putWords, each};
-ghost use Rattle.slot_bytes.specs.Layout.{F32, SvfF32, DcF32, StringF32, VoiceF32, ModeF32, BatchF32, All, ModalF32, SlotF32, svfWords, dcWords, stringWords, voiceWords, modeWords, batchWords, floatWords, modalWords, encodeSlot, flagOf, withBytes};
+ghost use Rattle.slot_bytes.specs.Layout.{decodeSlot, decodeBank, F32, SvfF32, DcF32, StringF32, VoiceF32, ModeF32, BatchF32, All, ModalF32, SlotF32, svfWords, dcWords, stringWords, voiceWords, modeWords, batchWords, floatWords, modalWords, encodeSlot, flagOf, withBytes};
+use crate::words::floats_stand;
 use crate::words::put_float;
 use crate::words::put_word;
+use crate::words::word_at;
 use modal_voice::modal_voice::ModalVoice;
 use modes::resonator::Batch;
 use modes::resonator::ResonatorSvf;
@@ -142,4 +145,39 @@ pub fn put_nth(bytes: &mut [u8], slot: usize, x: Slot)
     let from = 393 * slot;
     let to = from + 393;
     put_slot(&mut bytes[from..to], x);
+}
+
+// A modal voice at rest is written again, which changes bytes only where it holds a NaN.
+fn put_modal_again(b: &mut [u8])
+    requires { ⌜ length (now b) ≡ 393 ⌝ }
+    ensures { λ _. ⌜ (now (b .exit) ≡ putWords 24 (modalWords (decodeSlot (now (b .entry)) .modal)) (now (b .entry))) × ModalF32 (decodeSlot (now (b .entry)) .modal) ⌝ }
+{
+    if floats_stand(b, 24, 98) {
+        return;
+    }
+    let m = crate::decode::modal_at(b);
+    put_modal(b, m);
+}
+
+// A string's voice into its slot, whose kind and modal voice are written again.
+fn put_string_slot(b: &mut [u8], v: StringVoice)
+    requires { ⌜ length (now b) ≡ 393 ⌝ }
+    ensures { λ _. ⌜ (now (b .exit) ≡ encodeSlot (withString (decodeSlot (now (b .entry))) v)) × SlotF32 (withString (decodeSlot (now (b .entry))) v) ⌝ }
+{
+    let kind = word_at(b, 0);
+    let held = b[392] == 1;
+    put_modal_again(b);
+    put_voice(b, v);
+    put_word(b, 0, kind as usize);
+    b[392] = flag(held);
+}
+
+// A string's voice into a slot of a bank, and the other slots are kept.
+pub fn put_string_nth(bytes: &mut [u8], slot: usize, v: StringVoice)
+    requires { ⌜ (slot < 8) × (length (now bytes) ≡ 3144) ⌝ }
+    ensures { λ _. ⌜ (now (bytes .exit) ≡ withBytes slot (encodeSlot (withString (slotAt (decodeBank (now (bytes .entry))) slot) v)) (now (bytes .entry))) × SlotF32 (withString (slotAt (decodeBank (now (bytes .entry))) slot) v) ⌝ }
+{
+    let from = 393 * slot;
+    let to = from + 393;
+    put_string_slot(&mut bytes[from..to], v);
 }

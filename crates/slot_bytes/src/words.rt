@@ -1,10 +1,12 @@
 // A word as four bytes, the lowest first, and a float as the word of its bits.
 ghost use mathlib.Core.Path.{_≡_};
+ghost use mathlib.Core.Bool.{true, not};
 ghost use mathlib.Core.List.{[], _∷_};
-ghost use Prim.Native.Nat.{_+_, _*_, _≤_, _<_};
+ghost use Prim.Native.Nat.{_+_, _*_, _-_, _≤_, _<_};
 ghost use lib.ListN.{length, getD};
-ghost use Rattle.slot_bytes.specs.Words.{words, putWords};
-ghost use Rattle.slot_bytes.specs.Layout.{F32, floatIn, floatWords};
+ghost use lib.Ieee.{isNan};
+ghost use Rattle.slot_bytes.specs.Words.{words, putWords, each};
+ghost use Rattle.slot_bytes.specs.Layout.{F32, floatIn, floatsIn, noNan, floatWords};
 
 // A byte as a word.
 fn wide(x: u8) -> u32
@@ -13,10 +15,10 @@ fn wide(x: u8) -> u32
     x as u32
 }
 
-// The k-th word.
+// The k-th word, which written again would change no byte.
 pub fn word_at(b: &[u8], k: usize) -> u32
     requires { ⌜ 4 * k + 4 ≤ length (now b) ⌝ }
-    ensures { λ r. ⌜ r ≡ getD (words (now (b .entry))) k 0 ⌝ }
+    ensures { λ r. ⌜ (r ≡ getD (words (now (b .entry))) k 0) × (putWords k (r ∷ []) (now (b .entry)) ≡ now (b .entry)) ⌝ }
 {
     let at = 4 * k;
     let b0 = wide(b[at]);
@@ -43,6 +45,28 @@ pub fn float_at(b: &[u8], k: usize) -> f32
     ensures { λ r. ⌜ r ≡ floatIn (words (now (b .entry))) k ⌝ }
 {
     ground::bits::float_of(word_at(b, k))
+}
+
+// Whether the k-th float, written again, would change no byte: it is so of every float but a NaN.
+fn float_stands(b: &[u8], k: usize) -> bool
+    requires { ⌜ 4 * k + 4 ≤ length (now b) ⌝ }
+    ensures { λ r. ⌜ (r ≡ not (isNan (floatIn (words (now (b .entry))) k))) × (r ≡ true → putWords k (floatWords (floatIn (words (now (b .entry))) k)) (now (b .entry)) ≡ now (b .entry)) ⌝ }
+{
+    word_at(b, k) % 2147483648 <= 2139095040
+}
+
+// The same of each float from the k-th on and below `end`.
+pub fn floats_stand(b: &[u8], k: usize, end: usize) -> bool
+    requires { ⌜ (k ≤ end) × (4 * end ≤ length (now b)) ⌝ }
+    ensures { λ r. ⌜ (r ≡ noNan (floatsIn (words (now (b .entry))) k (end - k))) × (r ≡ true → putWords k (each floatWords (floatsIn (words (now (b .entry))) k (end - k))) (now (b .entry)) ≡ now (b .entry)) ⌝ }
+{
+    let mut stands = true;
+    let mut i = k;
+    while i < end {
+        stands = stands & float_stands(b, i);
+        i += 1;
+    }
+    stands
 }
 
 pub fn put_float(b: &mut [u8], k: usize, x: f32)

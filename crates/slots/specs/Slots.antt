@@ -46,6 +46,10 @@ slotAt b s = getD (b .slots) s emptySlot
 abbrev pub withSlot : Bank → ℕ → Slot → Bank
 withSlot b s x = record { slots = set (b .slots) s x }
 
+-- a slot with another string voice
+abbrev pub withString : Slot → StringVoice → Slot
+withString x v = record { kind = x .kind; string = v; modal = x .modal }
+
 -- opening: `new` then `init` of the kind's voice; nothing stays of what the slot held
 abbrev pub opened : ℕ → Float → List Float → Slot
 opened zero rate lines = emptySlot
