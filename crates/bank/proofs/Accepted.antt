@@ -138,4 +138,4 @@ module _ (kind : ℕ) (k : Knobs) (u : Bufs) (e : first (checks kind (render k u
   pub ready : (x : Slot) (mem : List Float) (slot : ℕ) → x .kind ≡ kind → Sound x → length mem ≡ 10240 → slot < 8 → Ready x mem slot (u .out)
   ready x mem slot ek s size in8 =
       let full : kind ≡ 0 → ⊥ = eqb-false kind 0 (not-empty .0) in
-      record { slot-in = in8; size = size; full = omega arith; known = s .known; string = s .string; stretch = s .stretch; short = short }
+      record { full = omega arith; known = s .known; voice = record { slot-in = in8; size = size; string = s .string; stretch = s .stretch; short = short } }

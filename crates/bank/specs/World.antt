@@ -6,6 +6,7 @@ use lib.ListN.{length}
 use lib.Ieee.{Float}
 use Rattle.ground.specs.Draw.{value, ending, words}
 use Rattle.ground.specs.Part.{part, put}
+use Rattle.string_voice.specs.declared.string_voice.StringVoice.{StringVoice}
 use Rattle.slots.specs.declared.slots.Slot.{Slot}
 use Rattle.slots.specs.declared.slots.Bank.{Bank}
 use Rattle.slots.specs.declared.answers.Verdict.{Verdict}

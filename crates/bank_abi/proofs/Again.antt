@@ -2,37 +2,25 @@
 use mathlib.Core.Path.{_≡_, refl, sym, _∙_, ap}
 use mathlib.Core.Bool.{Bool, true, false, cond}
 use mathlib.Core.List.{List, [], _∷_, _++_, map}
-use Prim.Native.Nat.{ℕ, zero, suc, _+_, _*_, _/_, _%_, _<_}
+use Prim.Native.Nat.{ℕ, zero, suc, _+_, _*_, _<_}
 use native.Mathlib.Omega.{arith}
-use native.Mathlib.Nat.{div-add-mod, div-div-eq-div-mul, mod-lt, mod-eq-of-lt}
 use native.Mathlib.Decide.{decLt}
 use lib.Dec.{eqb}
 use lib.ListN.{length, getD}
 use lib.Seq.{take-at, drop-at}
-use lib.Ieee.{binary32, nanBits, ofBits, toBits}
-use lib.Ieee.Bits.{toBits-ofBits, nanBits-is}
+use lib.Ieee.{binary32, ofBits}
 use Rattle.ground.specs.Frames.{tab}
 use Rattle.ground.specs.Part.{part}
 use Rattle.ground.proofs.Tab.{tab-getD}
 use Rattle.ground.proofs.Part.{part-put-below, part-put-above}
 use Rattle.slots.specs.declared.slots.Slot.{Slot}
 use Rattle.claims.specs.Claim.{Each}
-use Rattle.slot_bytes.specs.Words.{wordOf, words, bytes, each}
+use Rattle.slot_bytes.specs.Words.{words, bytes, each}
 use Rattle.slot_bytes.specs.Layout.{SlotF32, bits, svfIn, dcIn, stringIn, voiceIn, modeIn, batchIn, modalIn, slotIn, decodeSlot, svfWords, dcWords, stringWords, voiceWords, modeWords, batchWords, floatWords, modalWords, slotWords, flagOf, encodeSlot, parts, decodeBank, encodeBank, withBytes}
 use Rattle.bank_abi.specs.Claims.{Numbers, DecodeEncodeBank, isNumber, kept, EncodeDecode, Words, Untouched}
-use Rattle.ground.proofs.Nans.{is-nan}
 use Rattle.slot_bytes.proofs.Little.{length-slot-bytes}
+use Rattle.slot_bytes.proofs.Stand.{byte-0, byte-1, byte-2, byte-3, word-kept}
 use Rattle.bank_abi.proofs.Back.{Small, tab-same, decode-encode}
-
--- ---- a float's word
-
-by-test : (w : ℕ) → Small w → (b : Bool) → nanBits binary32 w ≡ b → bits (ofBits binary32 w) ≡ cond b 0x7fc00000 w
-unfolding toBits
-by-test w h true e = ap bits (is-nan (ofBits binary32 w) (sym (nanBits-is binary32 w) ∙ e))
-by-test w h false e = toBits-ofBits binary32 w h (rw (sym (nanBits-is binary32 w) ∙ e) tt)
-
-word-kept : (w : ℕ) → Small w → bits (ofBits binary32 w) ≡ cond (nanBits binary32 w) 0x7fc00000 w
-word-kept w h = by-test w h (nanBits binary32 w) refl
 
 -- ---- the words of a slot that was read
 
@@ -84,31 +72,6 @@ encode-decode bs b =
     (λ k l. by-number (isNumber k) (getD ws k 0) _ _ (word-kept (getD ws k 0) (small-at ws k (small-words bs (b .bytes))))))
 
 -- ---- bytes are the bytes of their words
-
-module _ (a b c d : ℕ) (p : a < 256) (q : b < 256) (r : c < 256) (s : d < 256) where
-  abbrev w : ℕ
-  w = wordOf a b c d
-
-  div-1 : w / 256 ≡ b + c * 256 + d * 65536
-  div-1 = let e = div-add-mod w 256 in let m : w % 256 < 256 = mod-lt w (omega arith) in omega arith
-
-  div-2 : w / 65536 ≡ c + d * 256
-  div-2 = let e = div-add-mod w 65536 in let m : w % 65536 < 65536 = mod-lt w (omega arith) in omega arith
-
-  div-3 : w / 16777216 ≡ d
-  div-3 = let e = div-add-mod w 16777216 in let m : w % 16777216 < 16777216 = mod-lt w (omega arith) in omega arith
-
-  byte-0 : w % 256 ≡ a
-  byte-0 = let e = div-add-mod w 256 in let m = div-1 in omega arith
-
-  byte-1 : w / 256 % 256 ≡ b
-  byte-1 = let e = div-add-mod (w / 256) 256 in let m = div-1 in let n = div-2 in let o : w / 256 / 256 ≡ w / 65536 = div-div-eq-div-mul w 256 256 in omega arith
-
-  byte-2 : w / 65536 % 256 ≡ c
-  byte-2 = let e = div-add-mod (w / 65536) 256 in let m = div-2 in let n = div-3 in let o : w / 65536 / 256 ≡ w / 16777216 = div-div-eq-div-mul w 65536 256 in omega arith
-
-  byte-3 : w / 16777216 % 256 ≡ d
-  byte-3 = ap (λ (n : ℕ). n % 256) div-3 ∙ mod-eq-of-lt s
 
 split : (n : ℕ) (bs : List ℕ) → length bs ≡ 4 * n + 1 → Each (λ b. b < 256) bs → (length (words bs) ≡ n) × (bytes (words bs) ++ (getD bs (4 * n) 0 ∷ []) ≡ bs)
 unfolding words bytes

@@ -28,7 +28,7 @@ use Rattle.slot_bytes.proofs.Little.{length-slot-bytes}
 use Rattle.bank_abi.proofs.Back.{decode-encode}
 use Rattle.slot_bytes.specs.Layout.{SlotF32, encodeSlot, parts, decodeBank, withBytes}
 use Rattle.bank_abi.specs.Claims.{Numbers}
-use Rattle.bank_abi.specs.Crossing.{badFlags, isBank, badBytes, Crossing, worldOf, crossBy, crossDef, numbersOf, decoded, Gives}
+use Rattle.bank_abi.specs.Crossing.{badFlags, isBank, badBytes, Crossing, worldOf, Crossed, crossBy, Wrote, crossDef, numbersOf, decoded, Gives}
 
 -- ---- what number 1 leaves of the bytes
 
@@ -110,23 +110,31 @@ module _ (x : Crossing) (c : Call) where
         agrees = λ b. ap (λ (v : Verdict). numbersOf (callBy v (worldOf x) c)) (same-table b ∙ e) ∙ λ i. (sym en i, noCounts, worldOf x, lent (c .act));
       }
 
-  pub accepted : (s : Slot) (m : Moved) (bs : List ℕ) → verdict (badBytes (x .bytes) (x .mem)) kind c ≡ Accepted → InF32 (c .act)
-      → s ≡ slotAt (decodeBank (x .bytes)) (c .slot) → movedBy (c .act) (c .slot) s (x .word) (x .mem) ≡ m
+  -- an accepted call: the slot that was read and moved, and the bytes that were written
+  pub wrote : (s : Slot) (m : Moved) (bs : List ℕ) → s ≡ slotAt (decodeBank (x .bytes)) (c .slot) → movedBy (c .act) (c .slot) s (x .word) (x .mem) ≡ m
       → bs ≡ withBytes (c .slot) (encodeSlot (m .slot)) (x .bytes) → SlotF32 (m .slot)
-      → Gives x c (record { number = 0; counts = m .counts; after = record { bytes = bs; word = m .word; mem = m .mem }; bufs = m .bufs })
-  unfolding crossDef crossBy callDef callBy movedBy
-  accepted s m bs e i es em eb f =
-      let t = taken (x .bytes) (x .mem) c e in
-      let s₀ = slotAt (decodeBank (x .bytes)) (c .slot) in
-      let em′ : movedBy (c .act) (c .slot) s₀ (x .word) (x .mem) ≡ m = ap (λ (y : Slot). movedBy (c .act) (c .slot) y (x .word) (x .mem)) (sym es) ∙ em in
-      let n : Numbers (m .slot) = subst (λ (q : Moved). Numbers (q .slot)) em′ (small-after (c .act) (c .slot) s₀ (x .word) (x .mem) (t .sound) (t .lines) (t .slot-in) i (t .rest)) in
-      let d : decodeBank bs ≡ withSlot (decodeBank (x .bytes)) (c .slot) (m .slot) =
-      ap decodeBank eb ∙ bank-after (x .bytes) (encodeSlot (m .slot)) (c .slot) (m .slot) (t .size) (t .slot-in) (length-slot-bytes (m .slot) (f .1)) (decode-encode (m .slot) f n) in
+      → Wrote x c (record { number = 0; counts = m .counts; after = record { bytes = bs; word = m .word; mem = m .mem }; bufs = m .bufs })
+  unfolding crossBy
+  wrote s m bs es em eb f =
+      let em′ : movedBy (c .act) (c .slot) (slotAt (decodeBank (x .bytes)) (c .slot)) (x .word) (x .mem) ≡ m = ap (λ (y : Slot). movedBy (c .act) (c .slot) y (x .word) (x .mem)) (sym es) ∙ em in
       record {
-        is = ap (λ (v : Verdict). crossBy v x c) e
-            ∙ ap (λ (q : Moved). record { number = 0; counts = q .counts; after = record { bytes = withBytes (c .slot) (encodeSlot (q .slot)) (x .bytes); word = q .word; mem = q .mem }; bufs = q .bufs }) em′
+        is = ap (λ (q : Moved). record { number = 0; counts = q .counts; after = record { bytes = withBytes (c .slot) (encodeSlot (q .slot)) (x .bytes); word = q .word; mem = q .mem }; bufs = q .bufs }) em′
             ∙ λ j. record { number = 0; counts = m .counts; after = record { bytes = sym eb j; word = m .word; mem = m .mem }; bufs = m .bufs };
+        held = subst (λ (q : Moved). SlotF32 (q .slot)) (sym em′) f;
+      }
+
+  pub accepted : (y : Crossed) → verdict (badBytes (x .bytes) (x .mem)) kind c ≡ Accepted → InF32 (c .act) → Wrote x c y → Gives x c y
+  unfolding crossDef crossBy callDef callBy movedBy
+  accepted y e i w =
+      let t = taken (x .bytes) (x .mem) c e in
+      let s = slotAt (decodeBank (x .bytes)) (c .slot) in
+      let m = movedBy (c .act) (c .slot) s (x .word) (x .mem) in
+      let n : Numbers (m .slot) = small-after (c .act) (c .slot) s (x .word) (x .mem) (t .sound) (t .lines) (t .slot-in) i (t .rest) in
+      let d : decodeBank (withBytes (c .slot) (encodeSlot (m .slot)) (x .bytes)) ≡ withSlot (decodeBank (x .bytes)) (c .slot) (m .slot) =
+      bank-after (x .bytes) (encodeSlot (m .slot)) (c .slot) (m .slot) (t .size) (t .slot-in) (length-slot-bytes (m .slot) (w .held .1)) (decode-encode (m .slot) (w .held) n) in
+      record {
+        is = ap (λ (v : Verdict). crossBy v x c) e ∙ w .is;
         agrees = λ b. ap (λ (v : Verdict). numbersOf (callBy v (worldOf x) c)) (same-table b ∙ e)
-            ∙ ap (λ (q : Moved). (0, q .counts, record { bank = withSlot (decodeBank (x .bytes)) (c .slot) (q .slot); word = q .word; mem = q .mem }, q .bufs)) em′
-            ∙ λ j. (0, m .counts, record { bank = sym d j; word = m .word; mem = m .mem }, m .bufs);
+            ∙ (λ j. (0, m .counts, record { bank = sym d j; word = m .word; mem = m .mem }, m .bufs))
+            ∙ ap decoded (w .is);
       }

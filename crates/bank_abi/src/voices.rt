@@ -1,5 +1,6 @@
 // A render that the table accepts, on the bytes of its slot.
 ghost use mathlib.Core.Path.{_≡_};
+ghost use Prim.Native.Nat.{_<_};
 ghost use lib.ListN.{length};
 ghost use lib.Ieee.{Float};
 ghost use mathlib.Core.List.{List};

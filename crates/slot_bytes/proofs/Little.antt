@@ -182,7 +182,7 @@ pub length-voice : (v : StringVoice) → length (voiceWords v) ≡ 23
 unfolding voiceWords stringWords svfWords dcWords
 length-voice v = refl
 
-length-modal : (m : ModalVoice) → ModalF32 m → length (modalWords m) ≡ 74
+pub length-modal : (m : ModalVoice) → ModalF32 m → length (modalWords m) ≡ 74
 unfolding modalWords modeWords batchWords
 length-modal m f =
     let r = m .resonator in

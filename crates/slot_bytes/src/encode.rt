@@ -152,7 +152,7 @@ fn put_modal_again(b: &mut [u8])
     requires { ⌜ length (now b) ≡ 393 ⌝ }
     ensures { λ _. ⌜ (now (b .exit) ≡ putWords 24 (modalWords (decodeSlot (now (b .entry)) .modal)) (now (b .entry))) × ModalF32 (decodeSlot (now (b .entry)) .modal) ⌝ }
 {
-    if floats_stand(b, 24, 98) {
+    if floats_stand(b, 24, 74) {
         return;
     }
     let m = crate::decode::modal_at(b);
@@ -177,7 +177,7 @@ pub fn put_string_nth(bytes: &mut [u8], slot: usize, v: StringVoice)
     requires { ⌜ (slot < 8) × (length (now bytes) ≡ 3144) ⌝ }
     ensures { λ _. ⌜ (now (bytes .exit) ≡ withBytes slot (encodeSlot (withString (slotAt (decodeBank (now (bytes .entry))) slot) v)) (now (bytes .entry))) × SlotF32 (withString (slotAt (decodeBank (now (bytes .entry))) slot) v) ⌝ }
 {
-    let from = 393 * slot;
-    let to = from + 393;
-    put_string_slot(&mut bytes[from..to], v);
+    let base = 393 * slot;
+    let end = base + 393;
+    put_string_slot(&mut bytes[base..end], v);
 }

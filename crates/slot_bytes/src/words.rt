@@ -2,7 +2,7 @@
 ghost use mathlib.Core.Path.{_≡_};
 ghost use mathlib.Core.Bool.{true, not};
 ghost use mathlib.Core.List.{[], _∷_};
-ghost use Prim.Native.Nat.{_+_, _*_, _-_, _≤_, _<_};
+ghost use Prim.Native.Nat.{_+_, _*_, _≤_, _<_};
 ghost use lib.ListN.{length, getD};
 ghost use lib.Ieee.{isNan};
 ghost use Rattle.slot_bytes.specs.Words.{words, putWords, each};
@@ -55,18 +55,18 @@ fn float_stands(b: &[u8], k: usize) -> bool
     word_at(b, k) % 2147483648 <= 2139095040
 }
 
-// The same of each float from the k-th on and below `end`.
-pub fn floats_stand(b: &[u8], k: usize, end: usize) -> bool
-    requires { ⌜ (k ≤ end) × (4 * end ≤ length (now b)) ⌝ }
-    ensures { λ r. ⌜ (r ≡ noNan (floatsIn (words (now (b .entry))) k (end - k))) × (r ≡ true → putWords k (each floatWords (floatsIn (words (now (b .entry))) k (end - k))) (now (b .entry)) ≡ now (b .entry)) ⌝ }
+// The same of each of n floats from the k-th on.
+pub fn floats_stand(b: &[u8], k: usize, n: usize) -> bool
+    requires { ⌜ 4 * (k + n) ≤ length (now b) ⌝ }
+    ensures { λ r. ⌜ (r ≡ noNan (floatsIn (words (now (b .entry))) k n)) × (r ≡ true → putWords k (each floatWords (floatsIn (words (now (b .entry))) k n)) (now (b .entry)) ≡ now (b .entry)) ⌝ }
 {
-    let mut stands = true;
-    let mut i = k;
-    while i < end {
-        stands = stands & float_stands(b, i);
+    let mut stand = true;
+    let mut i = 0;
+    while i < n {
+        stand = stand & float_stands(b, k + i);
         i += 1;
     }
-    stands
+    stand
 }
 
 pub fn put_float(b: &mut [u8], k: usize, x: f32)

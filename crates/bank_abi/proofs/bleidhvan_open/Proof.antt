@@ -3,7 +3,7 @@ use Rattle.bank.proofs.Accepted.{asked}
 use Rattle.slots.specs.Calls.{opening}
 use Rattle.slot_bytes.specs.Layout.{decodeBank}
 use Rattle.slots.specs.Slots.{slotAt}
-use Rattle.bank_abi.proofs.Crosses.{decided, taken, refused, accepted}
+use Rattle.bank_abi.proofs.Crosses.{decided, taken, refused, wrote, accepted}
 use mathlib.Core.Path.{refl}
 use denote.Ref.{now}
 use borrow.Author.Needs.{needs}
@@ -58,7 +58,8 @@ returns-2 : tie.Need-returns-2
 returns-2 c = λ w.
     let a = c .before .before .before .before .before .before .before .before .before .before .before .before .before .before .before .before .args in
     let p = c .before .before .put-nth .ensures in
-    accepted (record { bytes = now (a .bytes); word = w; mem = now (a .lines) }) (record { slot = a .slot; act = opening (a .kind) (a .sample-rate-hz) }) (slotAt (decodeBank (now (a .bytes))) (a .slot)) _ _ (decided (now (a .bytes)) (now (a .lines)) (record { slot = a .slot; act = opening (a .kind) (a .sample-rate-hz) }) (c .before .before .before .before .before .before .before .before .before .before .check-open .ensures (slotAt (decodeBank (now (a .bytes))) (a .slot) .kind)) (c .before .before .before .before .before .before .before .before .before .before .before .bad .ensures) (λ _. refl) (c .before .before .before .before .before .before .before .before .enum-told .given .1)) tt refl (c .before .before .before .before .before .before .«open» .ensures _ w) (p .0) (p .1)
+    accepted (record { bytes = now (a .bytes); word = w; mem = now (a .lines) }) (record { slot = a .slot; act = opening (a .kind) (a .sample-rate-hz) }) _ (decided (now (a .bytes)) (now (a .lines)) (record { slot = a .slot; act = opening (a .kind) (a .sample-rate-hz) }) (c .before .before .before .before .before .before .before .before .before .before .check-open .ensures (slotAt (decodeBank (now (a .bytes))) (a .slot) .kind)) (c .before .before .before .before .before .before .before .before .before .before .before .bad .ensures) (λ _. refl) (c .before .before .before .before .before .before .before .before .enum-told .given .1)) tt
+    (wrote (record { bytes = now (a .bytes); word = w; mem = now (a .lines) }) (record { slot = a .slot; act = opening (a .kind) (a .sample-rate-hz) }) (slotAt (decodeBank (now (a .bytes))) (a .slot)) _ _ refl (c .before .before .before .before .before .before .«open» .ensures _ w) (p .0) (p .1))
 
 pub bleidhvan-open-spec : {M : Type 1} → statement M
 bleidhvan-open-spec =

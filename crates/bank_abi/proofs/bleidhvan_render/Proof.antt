@@ -1,12 +1,12 @@
 -- `bleidhvan_render` meets its contract: the table decides.
 use denote.Floats.{passes}
+use mathlib.Core.Path.{refl}
 use Rattle.bank.proofs.Accepted.{ready, alike-lent}
-use Rattle.slots.specs.Calls.{Bufs, render}
 use Rattle.noise.specs.declared.excitation.Knobs.{Knobs}
-use Rattle.slot_bytes.specs.Layout.{decodeBank}
+use Rattle.slots.specs.Calls.{Bufs, render}
 use Rattle.slots.specs.Slots.{slotAt}
+use Rattle.slot_bytes.specs.Layout.{decodeBank}
 use Rattle.bank_abi.proofs.Crosses.{decided, taken, refused, accepted}
-use mathlib.Core.Path.{ap}
 use denote.Ref.{now}
 use borrow.Author.Needs.{needs}
 use Rattle.bank_abi.proofs.bleidhvan_render.Statement.{statement}
@@ -30,30 +30,14 @@ reason-number-requires c κs = search needs
 enum-told : tie.Need-enum-told
 enum-told c = search needs
 
-nth-requires : tie.Need-nth-requires
-nth-requires c κs =
-    let a = c .before .before .before .before .before .before .before .before .before .before .before .before .before .before .before .before .before .before .before .args in
-    let k : Knobs = record { sustain = a .sustain; trigger = a .trigger; accent = a .accent; f0 = a .f0; structure = a .structure; brightness = a .brightness; damping = a .damping } in
-    let u : Bufs = record { temp = now (a .temp); temp2 = now (a .temp-2); out = now (a .out); aux = now (a .aux) } in
-    let t = taken (now (a .bytes)) (now (a .lines)) (record { slot = a .slot; act = render k u }) (decided (now (a .bytes)) (now (a .lines)) (record { slot = a .slot; act = render k u }) (c .before .before .before .check-render .ensures) (c .before .before .before .before .before .before .before .before .before .before .bad .ensures) (c .before .before .before .before .before .before .before .before .kind-at .ensures) (c .before .enum-told .given .1)) in
-    (t .slot-in, t .size)
-
 render-requires : tie.Need-render-requires
 render-requires c κs =
-    let a = c .before .before .before .before .before .before .before .before .before .before .before .before .before .before .before .before .before .before .before .before .before .before .before .before .before .before .args in
+    let a = c .before .before .before .before .before .before .before .before .before .before .before .before .before .before .before .before .before .before .before .before .before .before .before .before .before .args in
     let k : Knobs = record { sustain = a .sustain; trigger = a .trigger; accent = a .accent; f0 = a .f0; structure = a .structure; brightness = a .brightness; damping = a .damping } in
     let u : Bufs = record { temp = now (a .temp); temp2 = now (a .temp-2); out = now (a .out); aux = now (a .aux) } in
-    let t = taken (now (a .bytes)) (now (a .lines)) (record { slot = a .slot; act = render k u }) (decided (now (a .bytes)) (now (a .lines)) (record { slot = a .slot; act = render k u }) (c .before .before .before .before .before .before .before .before .before .before .check-render .ensures) (c .before .before .before .before .before .before .before .before .before .before .before .before .before .before .before .before .before .bad .ensures) (c .before .before .before .before .before .before .before .before .before .before .before .before .before .before .before .kind-at .ensures) (c .before .before .before .before .before .before .before .before .enum-told .given .1)) in
-    let x = c .before .before .before .before .before .before .nth in
-    (ready (slotAt (decodeBank (now (a .bytes))) (a .slot) .kind) k u (t .rest) (x .result) (now (a .lines)) (a .slot) (ap (λ s. s .kind) (x .ensures)) (rw (x .ensures) (t .sound)) (t .lines) (t .slot-in), alike-lent (slotAt (decodeBank (now (a .bytes))) (a .slot) .kind) k u (t .rest))
-
-put-nth-requires : tie.Need-put-nth-requires
-put-nth-requires c κs =
-    let a = c .before .before .before .before .before .before .before .before .before .before .before .before .before .before .before .before .before .before .before .before .before .before .before .before .before .before .before .before .before .before .before .before .before .before .before .before .before .before .before .args in
-    let k : Knobs = record { sustain = a .sustain; trigger = a .trigger; accent = a .accent; f0 = a .f0; structure = a .structure; brightness = a .brightness; damping = a .damping } in
-    let u : Bufs = record { temp = now (a .temp); temp2 = now (a .temp-2); out = now (a .out); aux = now (a .aux) } in
-    let t = taken (now (a .bytes)) (now (a .lines)) (record { slot = a .slot; act = render k u }) (decided (now (a .bytes)) (now (a .lines)) (record { slot = a .slot; act = render k u }) (c .before .before .before .before .before .before .before .before .before .before .before .before .before .before .before .before .before .before .before .before .before .before .before .check-render .ensures) (c .before .before .before .before .before .before .before .before .before .before .before .before .before .before .before .before .before .before .before .before .before .before .before .before .before .before .before .before .before .before .bad .ensures) (c .before .before .before .before .before .before .before .before .before .before .before .before .before .before .before .before .before .before .before .before .before .before .before .before .before .before .before .before .kind-at .ensures) (c .before .before .before .before .before .before .before .before .before .before .before .before .before .before .before .before .before .before .before .before .before .enum-told .given .1)) in
-    (t .slot-in, t .size)
+    let n = slotAt (decodeBank (now (a .bytes))) (a .slot) .kind in
+    let t = taken (now (a .bytes)) (now (a .lines)) (record { slot = a .slot; act = render k u }) (decided (now (a .bytes)) (now (a .lines)) (record { slot = a .slot; act = render k u }) (c .before .before .before .before .before .before .before .before .before .check-render .ensures) (c .before .before .before .before .before .before .before .before .before .before .before .before .before .before .before .before .bad .ensures) (c .before .before .before .before .before .before .before .before .before .before .before .before .before .before .kind-at .ensures) (c .before .before .before .before .before .before .before .enum-told .given .1)) in
+    (c .before .before .before .before .before .before .before .before .before .before .before .before .before .before .kind-at .ensures (t .size), ready n k u (t .rest) (slotAt (decodeBank (now (a .bytes))) (a .slot)) (now (a .lines)) (a .slot) refl (t .sound) (t .lines) (t .slot-in), alike-lent n k u (t .rest), t .size)
 
 same-length : tie.Need-same-length
 same-length c = search needs
@@ -100,11 +84,10 @@ same-length-12 c = search needs
 
 returns-2 : tie.Need-returns-2
 returns-2 c =
-    let a = c .before .before .before .before .before .before .before .before .before .before .before .before .before .before .before .before .before .before .before .before .before .before .before .before .before .before .before .before .before .before .before .before .before .before .before .before .before .before .before .before .before .before .before .args in
+    let a = c .before .before .before .before .before .before .before .before .before .before .before .before .before .before .before .before .before .before .before .before .before .before .before .before .before .before .before .before .before .before .before .before .before .before .before .before .before .before .before .args in
     let k : Knobs = record { sustain = a .sustain; trigger = a .trigger; accent = a .accent; f0 = a .f0; structure = a .structure; brightness = a .brightness; damping = a .damping } in
     let u : Bufs = record { temp = now (a .temp); temp2 = now (a .temp-2); out = now (a .out); aux = now (a .aux) } in
-    let p = c .before .before .before .put-nth .ensures in
-    accepted (record { bytes = now (a .bytes); word = now (a .word); mem = now (a .lines) }) (record { slot = a .slot; act = render k u }) (c .before .before .before .before .before .before .before .before .before .before .before .before .before .before .before .before .before .before .before .before .before .before .before .nth .result) _ _ (decided (now (a .bytes)) (now (a .lines)) (record { slot = a .slot; act = render k u }) (c .before .before .before .before .before .before .before .before .before .before .before .before .before .before .before .before .before .before .before .before .before .before .before .before .before .before .before .check-render .ensures) (c .before .before .before .before .before .before .before .before .before .before .before .before .before .before .before .before .before .before .before .before .before .before .before .before .before .before .before .before .before .before .before .before .before .before .bad .ensures) (c .before .before .before .before .before .before .before .before .before .before .before .before .before .before .before .before .before .before .before .before .before .before .before .before .before .before .before .before .before .before .before .before .kind-at .ensures) (c .before .before .before .before .before .before .before .before .before .before .before .before .before .before .before .before .before .before .before .before .before .before .before .before .before .enum-told .given .1)) (passes _ (c .before .before .before .before .before .before .before .before .before .before .before .before .before .before .before .before .before .before .before .before .before .before .before .before .before .before .before .before .before .before .before .before .before .before .before .before .before .before .before .before .before .before .before .good .1 .1 .1 .1 .1 .1 .1 .1 .0 .1)) (c .before .before .before .before .before .before .before .before .before .before .before .before .before .before .before .before .before .before .before .before .before .before .before .nth .ensures) (c .before .before .before .before .before .before .before .before .before .before .before .before .before .before .before .before .render .ensures) (p .0) (p .1)
+    accepted (record { bytes = now (a .bytes); word = now (a .word); mem = now (a .lines) }) (record { slot = a .slot; act = render k u }) _ (decided (now (a .bytes)) (now (a .lines)) (record { slot = a .slot; act = render k u }) (c .before .before .before .before .before .before .before .before .before .before .before .before .before .before .before .before .before .before .before .before .before .before .before .check-render .ensures) (c .before .before .before .before .before .before .before .before .before .before .before .before .before .before .before .before .before .before .before .before .before .before .before .before .before .before .before .before .before .before .bad .ensures) (c .before .before .before .before .before .before .before .before .before .before .before .before .before .before .before .before .before .before .before .before .before .before .before .before .before .before .before .before .kind-at .ensures) (c .before .before .before .before .before .before .before .before .before .before .before .before .before .before .before .before .before .before .before .before .before .enum-told .given .1)) (passes _ (c .before .before .before .before .before .before .before .before .before .before .before .before .before .before .before .before .before .before .before .before .before .before .before .before .before .before .before .before .before .before .before .before .before .before .before .before .before .before .before .good .1 .1 .1 .1 .1 .1 .1 .1 .0 .1)) (c .before .before .before .before .before .before .before .before .before .before .before .before .before .render .ensures)
 
 pub bleidhvan-render-spec : {M : Type 1} → statement M
 bleidhvan-render-spec =
@@ -116,9 +99,7 @@ bleidhvan-render-spec =
     enum-known-verdict
     reason-number-requires
     enum-told
-    nth-requires
     render-requires
-    put-nth-requires
     same-length
     same-length-2
     same-length-3

@@ -1,6 +1,9 @@
 -- `bleidhvan_reset` meets its contract: the table decides.
+use mathlib.Core.Path.{refl, sym}
+use Rattle.slots.specs.Slots.{slotAt}
 use Rattle.slots.specs.Calls.{reset}
-use Rattle.bank_abi.proofs.Crosses.{decided, taken, refused, accepted}
+use Rattle.slot_bytes.specs.Layout.{decodeBank}
+use Rattle.bank_abi.proofs.Crosses.{decided, taken, refused, wrote, accepted}
 use denote.Ref.{now}
 use borrow.Author.Needs.{needs}
 use Rattle.bank_abi.proofs.bleidhvan_reset.Statement.{statement}
@@ -24,20 +27,20 @@ reason-number-requires c κs = search needs
 enum-told : tie.Need-enum-told
 enum-told c = search needs
 
-nth-requires : tie.Need-nth-requires
-nth-requires c κs =
+string-nth-requires : tie.Need-string-nth-requires
+string-nth-requires c κs =
     let a = c .before .before .before .before .before .before .before .before .before .before .before .args in
     let t = taken (now (a .bytes)) (now (a .lines)) (record { slot = a .slot; act = reset }) (decided (now (a .bytes)) (now (a .lines)) (record { slot = a .slot; act = reset }) (c .before .before .before .check-reset .ensures) (c .before .before .before .before .before .before .bad .ensures) (c .before .before .before .before .kind-at .ensures) (c .before .enum-told .given .1)) in
     (t .slot-in, t .size)
 
-reset-requires : tie.Need-reset-requires
-reset-requires c κs =
+reset-string-requires : tie.Need-reset-string-requires
+reset-string-requires c κs =
     let a = c .before .before .before .before .before .before .before .before .before .before .before .before .before .args in
     let t = taken (now (a .bytes)) (now (a .lines)) (record { slot = a .slot; act = reset }) (decided (now (a .bytes)) (now (a .lines)) (record { slot = a .slot; act = reset }) (c .before .before .before .before .before .check-reset .ensures) (c .before .before .before .before .before .before .before .before .bad .ensures) (c .before .before .before .before .before .before .kind-at .ensures) (c .before .before .before .enum-told .given .1)) in
     (t .slot-in, t .lines)
 
-put-nth-requires : tie.Need-put-nth-requires
-put-nth-requires c κs =
+put-string-nth-requires : tie.Need-put-string-nth-requires
+put-string-nth-requires c κs =
     let a = c .before .before .before .before .before .before .before .before .before .before .before .before .before .before .before .before .before .args in
     let t = taken (now (a .bytes)) (now (a .lines)) (record { slot = a .slot; act = reset }) (decided (now (a .bytes)) (now (a .lines)) (record { slot = a .slot; act = reset }) (c .before .before .before .before .before .before .before .before .before .check-reset .ensures) (c .before .before .before .before .before .before .before .before .before .before .before .before .bad .ensures) (c .before .before .before .before .before .before .before .before .before .before .kind-at .ensures) (c .before .before .before .before .before .before .before .enum-told .given .1)) in
     (t .slot-in, t .size)
@@ -62,8 +65,10 @@ same-length-4 c = search needs
 returns-2 : tie.Need-returns-2
 returns-2 c = λ w.
     let a = c .before .before .before .before .before .before .before .before .before .before .before .before .before .before .before .before .before .before .before .before .args in
-    let p = c .before .before .put-nth .ensures in
-    accepted (record { bytes = now (a .bytes); word = w; mem = now (a .lines) }) (record { slot = a .slot; act = reset }) (c .before .before .before .before .before .before .before .before .nth .result) _ _ (decided (now (a .bytes)) (now (a .lines)) (record { slot = a .slot; act = reset }) (c .before .before .before .before .before .before .before .before .before .before .before .before .check-reset .ensures) (c .before .before .before .before .before .before .before .before .before .before .before .before .before .before .before .bad .ensures) (c .before .before .before .before .before .before .before .before .before .before .before .before .before .kind-at .ensures) (c .before .before .before .before .before .before .before .before .before .before .enum-told .given .1)) tt (c .before .before .before .before .before .before .before .before .nth .ensures) (c .before .before .before .before .before .before .reset .ensures w) (p .0) (p .1)
+    let x = slotAt (decodeBank (now (a .bytes))) (a .slot) in
+    let p = c .before .before .put-string-nth .ensures in
+    accepted (record { bytes = now (a .bytes); word = w; mem = now (a .lines) }) (record { slot = a .slot; act = reset }) _ (decided (now (a .bytes)) (now (a .lines)) (record { slot = a .slot; act = reset }) (c .before .before .before .before .before .before .before .before .before .before .before .before .check-reset .ensures) (c .before .before .before .before .before .before .before .before .before .before .before .before .before .before .before .bad .ensures) (c .before .before .before .before .before .before .before .before .before .before .before .before .before .kind-at .ensures) (c .before .before .before .before .before .before .before .before .before .before .enum-told .given .1)) tt
+    (wrote (record { bytes = now (a .bytes); word = w; mem = now (a .lines) }) (record { slot = a .slot; act = reset }) x _ _ refl (c .before .before .before .before .before .before .reset-string .ensures x w (sym (c .before .before .before .before .before .before .before .before .string-nth .ensures))) (p .0) (p .1))
 
 pub bleidhvan-reset-spec : {M : Type 1} → statement M
 bleidhvan-reset-spec =
@@ -75,9 +80,9 @@ bleidhvan-reset-spec =
     enum-known-verdict
     reason-number-requires
     enum-told
-    nth-requires
-    reset-requires
-    put-nth-requires
+    string-nth-requires
+    reset-string-requires
+    put-string-nth-requires
     same-length
     same-length-2
     returns

@@ -28,9 +28,9 @@ part-render-end c = search needs
 
 render-requires : tie.Need-render-requires
 render-requires c κs =
-    let s = c .before .before .before .before .before .before .before .before .before .before .before in
+    let s = c .before .before .before .before .before .before .before .before .before .before in
     let a = s .args in
-    (good-part (a .x) (now (a .lines)) (a .slot) (now (a .out)) (s .pre .0), omega (arith, s .pre .0 .short), s .pre .2)
+    (good-part (a .voice) (now (a .lines)) (a .slot) (now (a .out)) (s .pre .0), omega (arith, s .pre .0 .short), s .pre .1)
 
 same-length : tie.Need-same-length
 same-length c = search needs
@@ -48,14 +48,13 @@ same-length-5 : tie.Need-same-length-5
 same-length-5 c = search needs
 
 returns : tie.Need-returns
-returns c =
-    let s = c .before .before .before .before .before .before .before .before .before .before .before .before .before .before .before .before .before .before .before .before .before .before .before .before .before in
-    let a = s .args in
-    let r = c .before .before .before .before .before .before .before .before .before .before .before .before .before .render in
+returns c = λ x one same.
+    let a = c .before .before .before .before .before .before .before .before .before .before .before .before .before .before .before .before .before .before .before .before .before .args in
+    let r = c .before .before .before .before .before .before .before .before .before .before .render in
     string-moved (now (a .lines)) (a .word) (a .slot) (1280 * a .slot + 1280 - 1280 * a .slot) (width (a .slot)) (a .k)
     (record { temp = now (a .temp); temp2 = now (a .temp-2); out = now (a .out); aux = now (a .aux) })
     (record { temp = r .last .1 .1 .1 .0; temp2 = r .last .1 .1 .1 .1 .0; out = r .last .1 .1 .1 .1 .1 .0; aux = r .last .1 .1 .1 .1 .1 .1 .0 })
-    (a .x) (r .result .voice) (r .last .1 .1 .0) (r .result .counts) (r .result .word) (s .pre .1) (r .ensures)
+    x (r .result .voice) (r .last .1 .1 .0) (r .result .counts) (r .result .word) one (rw same (r .ensures))
 
 pub render-string-spec : {M : Type 1} → statement M
 render-string-spec =

@@ -22,7 +22,7 @@ shared-slice-read-flag c = search needs
 
 returns : tie.Need-returns
 unfolding badSlot decodeSlot slotIn voiceIn stringIn
-returns c = simp (c .before .word-at4 .ensures, c .before .before .word-at3 .ensures, c .before .before .before .word-at2 .ensures, c .before .before .before .before .word-at .ensures)
+returns c = simp (c .before .word-at4 .ensures .0, c .before .before .word-at3 .ensures .0, c .before .before .before .word-at2 .ensures .0, c .before .before .before .before .word-at .ensures .0)
 
 pub bad-slot-spec : {M : Type 1} → statement M
 bad-slot-spec =

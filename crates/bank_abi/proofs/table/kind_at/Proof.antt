@@ -33,7 +33,7 @@ word-at-requires : tie.Need-word-at-requires
 word-at-requires c κs = simp (length-take, length-drop) (omega arith)
 
 returns-3 : tie.Need-returns-3
-returns-3 c = λ e. c .word-at .ensures ∙ kind-cut (now (c .before .before .before .before .before .args .bytes)) (c .before .before .before .before .before .args .slot) (omega arith)
+returns-3 c = λ e. c .word-at .ensures .0 ∙ kind-cut (now (c .before .before .before .before .before .args .bytes)) (c .before .before .before .before .before .args .slot) (omega arith)
 
 pub kind-at-spec : {M : Type 1} → statement M
 kind-at-spec =

@@ -15,7 +15,7 @@ modal-at-requires c κs = search needs
 
 returns : tie.Need-returns
 unfolding decodeSlot slotIn
-returns c = λ i. record { kind = c .before .before .word-at .ensures i; string = c .before .voice-at .ensures i; modal = c .modal-at .ensures i }
+returns c = λ i. record { kind = c .before .before .word-at .ensures .0 i; string = c .before .voice-at .ensures i; modal = c .modal-at .ensures i }
 
 pub slot-at-spec : {M : Type 1} → statement M
 slot-at-spec = tie.close (tie.spec word-at-requires voice-at-requires modal-at-requires returns)

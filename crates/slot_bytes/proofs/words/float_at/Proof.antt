@@ -10,7 +10,7 @@ float-of-requires : tie.Need-float-of-requires
 float-of-requires c κs = search needs
 
 returns : tie.Need-returns
-returns c = rw (c .float-of .ensures, c .before .word-at .ensures)
+returns c = rw (c .float-of .ensures, c .before .word-at .ensures .0)
 
 pub float-at-spec : {M : Type 1} → statement M
 float-at-spec = tie.close (tie.spec word-at-requires float-of-requires returns)

@@ -1,6 +1,7 @@
 -- `words::word_at` meets its contract.
 use denote.Ref.{now}
 use Rattle.slot_bytes.proofs.Little.{word-at}
+use Rattle.slot_bytes.proofs.Stand.{word-stands}
 use native.Mathlib.Omega.{arith}
 use borrow.Author.Needs.{needs}
 use Rattle.slot_bytes.proofs.words.word_at.Statement.{statement}
@@ -63,7 +64,12 @@ add-result-3 c = omega arith
 returns : tie.Need-returns
 returns c =
     let s = c .before .before .before .before .before .before .before .before .before in
-    rw (c .wide4 .ensures .0, c .before .before .wide3 .ensures .0, c .before .before .before .before .wide2 .ensures .0, c .before .before .before .before .before .before .wide .ensures .0) (word-at (s .args .k) (now (s .args .b)) (omega arith))
+    let w₀ = c .before .before .before .before .before .before .wide .ensures in
+    let w₁ = c .before .before .before .before .wide2 .ensures in
+    let w₂ = c .before .before .wide3 .ensures in
+    let w₃ = c .wide4 .ensures in
+    rw (w₃ .0, w₂ .0, w₁ .0, w₀ .0)
+    (word-at (s .args .k) (now (s .args .b)) (omega arith), word-stands (s .args .k) (now (s .args .b)) (omega arith) (rw (← (w₀ .0)) (w₀ .1)) (rw (← (w₁ .0)) (w₁ .1)) (rw (← (w₂ .0)) (w₂ .1)) (rw (← (w₃ .0)) (w₃ .1)))
 
 pub word-at-spec : {M : Type 1} → statement M
 word-at-spec =
