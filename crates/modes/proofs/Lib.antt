@@ -5,3 +5,4 @@ pub mod Unique
 pub mod Mirror
 pub mod Grid
 pub mod Bare
+pub mod Steady

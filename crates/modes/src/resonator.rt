@@ -1,8 +1,10 @@
 // Resonator, taken from Rings' code but with fixed position: 24 modes in six batches of four.
 ghost use mathlib.Core.Path.{_≡_};
+ghost use mathlib.Core.Bool.{cond};
 ghost use Prim.Native.Nat.{_+_, _-_, _<_, _≤_};
 ghost use lib.ListN.{length};
-ghost use Rattle.ground.specs.F32.{_⊗_};
+ghost use lib.Ieee.{lt};
+ghost use Rattle.ground.specs.F32.{_⊗_, c0, c0·93, c0·98};
 ghost use Rattle.modes.specs.Subnormal.{isSmall};
 ghost use Rattle.modes.specs.Resonator.{svfNew, modeOf, tickOf, lowBlock, filtersNew, resonatorNew, resonatorInit, capOf, shrunk, nextOf, compensation, firstOf, lossOf, processOf};
 ghost use Rattle.modes.specs.OnePass.{tuned, modesOf, modesFor, putBatch, statesOf, stateAt, batchAt, filtersOf, Bands, bandsOf, placesOf, smallFour, smallPair, quietOf, quietAt, plainOf, bareSum, addBare, frameOf, onePass};
@@ -208,13 +210,21 @@ fn shrink(stiffness: f32) -> f32
     }
 }
 
-fn next_partial(f0: f32, q_loss: f32, p: Partial) -> Partial
+// The factor of that, which is the same at every mode.
+fn shrinkage(stiffness: f32) -> f32
+    ensures { λ r. ⌜ r ≡ cond (lt stiffness c0) c0·93 c0·98 ⌝ }
+{
+    if stiffness < 0.0 { 0.93 } else { 0.98 }
+}
+
+fn next_partial(f0: f32, q_loss: f32, shrinkage: f32, p: Partial) -> Partial
+    requires { ⌜ shrunk (p .stiffness) ≡ p .stiffness ⊗ shrinkage ⌝ }
     ensures { λ r. ⌜ r ≡ nextOf f0 «q_loss» p ⌝ }
 {
     Partial {
         harmonic: p.harmonic + f0,
         stretch_factor: p.stretch_factor + p.stiffness,
-        stiffness: shrink(p.stiffness),
+        stiffness: p.stiffness * shrinkage,
         q: p.q * q_loss,
     }
 }
@@ -258,6 +268,7 @@ fn tune(mode_amplitude: [f32; 24], f0: f32, q_loss: f32, first: Partial) -> Tune
     let mut f = [0.0f32; 24];
     let mut q = [0.0f32; 24];
     let mut a = [0.0f32; 24];
+    let factor = shrinkage(first.stiffness);
     let mut p = first;
     let mut i = 0;
     while i < 24 {
@@ -265,7 +276,7 @@ fn tune(mode_amplitude: [f32; 24], f0: f32, q_loss: f32, first: Partial) -> Tune
         f[i] = mode_frequency;
         q[i] = 1.0 + mode_frequency * p.q;
         a[i] = mode_amplitude[i] * (1.0 - mode_frequency * 2.0);
-        p = next_partial(f0, q_loss, p);
+        p = next_partial(f0, q_loss, factor, p);
         i += 1;
     }
     Tuned { f, q, a }

@@ -1,12 +1,15 @@
 -- `resonator::tune` meets its contract, by the law of loops that store a value at each place.
-use mathlib.Core.Path.{_≡_, refl}
+use mathlib.Core.Path.{_≡_, refl, sym, _∙_, ap, subst}
 use Prim.Native.Nat.{_-_, _≤_}
 use lib.ListN.{getD}
-use lib.Ieee.{nan}
+use lib.Ieee.{Float, nan, lt}
+use Rattle.ground.specs.F32.{_⊗_, c0}
 use Rattle.ground.proofs.Frames.{after-turn}
 use Rattle.ground.proofs.Tab.{Stored, stored-begin, stored-turn, stored-end}
 use Rattle.modes.specs.Resonator.{nextOf, frequency, resonance, amplitude}
 use Rattle.modes.specs.OnePass.{partialAt, tuned}
+use Rattle.modes.specs.declared.resonator.Partial.{Partial}
+use Rattle.modes.proofs.Steady.{Steady, steady-begin, steady-turn}
 use Rattle.modes.proofs.Frame.{stored-f, stored-q, stored-a}
 use native.Mathlib.Omega.{arith}
 use borrow.Author.Needs.{needs}
@@ -14,18 +17,22 @@ use Rattle.modes.proofs.resonator.tune.Statement.{statement}
 use Rattle.modes.proofs.resonator.tune.Tie as tie
 
 abbrev Inv-loop : tie.InvT-loop
-Inv-loop f0 q-loss mode-amplitude f₀ q₀ a₀ p₀ i₀ f q a p i =
+Inv-loop f0 q-loss mode-amplitude f₀ q₀ a₀ factor p₀ i₀ f q a p i =
     (p ≡ partialAt f0 q-loss p₀ i)
     × Stored (λ m. frequency (partialAt f0 q-loss p₀ m)) f₀ i f
     × Stored (λ m. resonance (partialAt f0 q-loss p₀ m)) q₀ i q
     × Stored (λ m. amplitude (getD mode-amplitude m nan) (partialAt f0 q-loss p₀ m)) a₀ i a
     × (i ≤ 24)
+    × Steady (lt (p₀ .stiffness) c0) (p .stiffness)
 
 abbrev μ-loop : tie.MeasureT-loop
-μ-loop f0 q-loss mode-amplitude f₀ q₀ a₀ p₀ i₀ f q a p i = 24 - i
+μ-loop f0 q-loss mode-amplitude f₀ q₀ a₀ factor p₀ i₀ f q a p i = 24 - i
+
+shrinkage-requires : tie.Need-shrinkage-requires Inv-loop μ-loop
+shrinkage-requires c κs = search needs
 
 loop-holds : tie.Need-loop-holds Inv-loop μ-loop
-loop-holds c = (refl, stored-begin, stored-begin, stored-begin, omega arith)
+loop-holds c = (refl, stored-begin, stored-begin, stored-begin, omega arith, steady-begin (c .before .args .first .stiffness))
 
 cap-requires : tie.Need-cap-requires Inv-loop μ-loop
 cap-requires c κs = search needs
@@ -55,7 +62,10 @@ array-write-a : tie.Need-array-write-a Inv-loop μ-loop
 array-write-a c = omega arith
 
 next-partial-requires : tie.Need-next-partial-requires Inv-loop μ-loop
-next-partial-requires c κs = search needs
+next-partial-requires c κs =
+    let l = c .before .before .before .before .loop in
+    let s = l .p .stiffness in
+    steady-turn (lt (c .before .before .before .before .before .before .args .first .stiffness) c0) s (l .inv .5) .0 ∙ ap (λ (f : Float). s ⊗ f) (sym (c .before .before .before .before .before .shrinkage .ensures))
 
 add-i : tie.Need-add-i Inv-loop μ-loop
 add-i c = omega arith
@@ -64,9 +74,10 @@ loop-less : tie.Need-loop-less Inv-loop μ-loop
 loop-less c = omega arith
 
 loop-again : tie.Need-loop-again Inv-loop μ-loop
+unfolding nextOf
 loop-again c =
     let l = c .before .before .before .before .before .loop in
-    let a = c .before .before .before .before .before .before .args in
+    let a = c .before .before .before .before .before .before .before .args in
     let e = c .before .before .cap .ensures in
     let s = l .inv .0 in (
       after-turn (nextOf (a .f0) (a .q-loss)) (l .i) (a .first) s (c .next-partial .ensures),
@@ -74,6 +85,7 @@ loop-again c =
       stored-turn (l .inv .2) (omega arith) (stored-q e s),
       stored-turn (l .inv .3) (omega arith) (stored-a e s (getD (a .t1) (l .i) nan)),
       omega arith,
+      subst (λ (p : Partial). Steady (lt (a .first .stiffness) c0) (p .stiffness)) (sym (c .next-partial .ensures)) (steady-turn (lt (a .first .stiffness) c0) (l .p .stiffness) (l .inv .5) .1),
     )
 
 returns : tie.Need-returns Inv-loop μ-loop
@@ -92,6 +104,7 @@ tune-spec =
     (tie.spec
     Inv-loop
     μ-loop
+    shrinkage-requires
     loop-holds
     cap-requires
     mul-f
