@@ -39,9 +39,9 @@ pub fn reset_string(voice: StringVoice, lines: &mut [f32], slot: usize) -> Strin
     ensures { λ r. ⌜ ((x : Slot) (w : ℕ) → x .string ≡ voice → movedBy reset slot x w (now (lines .entry))
         ≡ record { slot = withString x r; word = w; mem = now (lines .exit); bufs = lent reset; counts = noCounts }) ⌝ }
 {
-    let base = 1280 * slot;
-    let end = base + 1280;
-    voice.reset(&mut lines[base..end])
+    let start = 1280 * slot;
+    let stop = start + 1280;
+    voice.reset(&mut lines[start..stop])
 }
 
 // A reset of a string.

@@ -6,11 +6,11 @@ use borrow.Author.Needs.{needs}
 use Rattle.bank.proofs.acts.reset_string.Statement.{statement}
 use Rattle.bank.proofs.acts.reset_string.Tie as tie
 
-mul-base : tie.Need-mul-base
-mul-base c = search needs
+mul-start : tie.Need-mul-start
+mul-start c = search needs
 
-add-end : tie.Need-add-end
-add-end c = search needs
+add-stop : tie.Need-add-stop
+add-stop c = search needs
 
 mul-reset : tie.Need-mul-reset
 mul-reset c = search needs
@@ -40,8 +40,8 @@ pub reset-string-spec : {M : Type 1} → statement M
 reset-string-spec =
     tie.close
     (tie.spec
-    mul-base
-    add-end
+    mul-start
+    add-stop
     mul-reset
     sub-reset
     part-reset-start
