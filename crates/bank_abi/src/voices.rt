@@ -87,7 +87,7 @@ fn render_modal(
     }
 }
 
-// A render, by the slot's kind.
+// A render, by the slot's kind. Each voice's is called twice, so that the compiler leaves it a function of its own, whose loop has all registers.
 pub fn render(
     around: bool,
     kind: u32,
@@ -112,8 +112,14 @@ pub fn render(
       bufs = record { temp = now (temp .exit); temp2 = now («temp_2» .exit); out = now (out .exit); aux = now (aux .exit) };
     }) ⌝ }
 {
+    if around {
+        if kind == 1 {
+            return render_string(bytes, lines, word, slot, k, temp, temp_2, out, aux);
+        }
+        return render_modal(true, bytes, word, slot, k, temp, temp_2, out, aux);
+    }
     if kind == 1 {
         return render_string(bytes, lines, word, slot, k, temp, temp_2, out, aux);
     }
-    render_modal(around, bytes, word, slot, k, temp, temp_2, out, aux)
+    render_modal(false, bytes, word, slot, k, temp, temp_2, out, aux)
 }

@@ -47,7 +47,52 @@ same-length-11 : tie.Need-same-length-11
 same-length-11 c = search needs
 
 returns-2 : tie.Need-returns-2
-returns-2 c = c .before .before .before .before .before .before .before .before .before .before .render-modal .ensures (now (c .before .before .before .before .before .before .before .before .before .before .before .before .before .before .before .before .before .before .before .before .before .before .before .args .lines))
+returns-2 c = c .before .before .before .before .before .before .before .before .before .before .render-modal .ensures (now (c .before .before .before .before .before .before .before .before .before .before .before .before .before .before .before .before .before .before .before .before .before .before .before .before .args .lines))
+
+render-string-requires-2 : tie.Need-render-string-requires-2
+render-string-requires-2 c κs = search needs
+
+same-length-12 : tie.Need-same-length-12
+same-length-12 c = search needs
+
+same-length-13 : tie.Need-same-length-13
+same-length-13 c = search needs
+
+same-length-14 : tie.Need-same-length-14
+same-length-14 c = search needs
+
+same-length-15 : tie.Need-same-length-15
+same-length-15 c = search needs
+
+same-length-16 : tie.Need-same-length-16
+same-length-16 c = search needs
+
+same-length-17 : tie.Need-same-length-17
+same-length-17 c = search needs
+
+returns-3 : tie.Need-returns-3
+returns-3 c = search needs
+
+render-modal-requires-2 : tie.Need-render-modal-requires-2
+render-modal-requires-2 c κs = search needs
+
+same-length-18 : tie.Need-same-length-18
+same-length-18 c = search needs
+
+same-length-19 : tie.Need-same-length-19
+same-length-19 c = search needs
+
+same-length-20 : tie.Need-same-length-20
+same-length-20 c = search needs
+
+same-length-21 : tie.Need-same-length-21
+same-length-21 c = search needs
+
+same-length-22 : tie.Need-same-length-22
+same-length-22 c = search needs
+
+returns-4 : tie.Need-returns-4
+returns-4 c = c .before .before .before .before .before .before .before .before .before .before .render-modal2 .ensures (now (c .before .before .before .before .before .before .before .before .before .before .before .before .before .before .before .before .before .before .before .before .before .before .before .before .args .lines))
 
 pub render-spec : {M : Type 1} → statement M
 render-spec =
@@ -67,4 +112,19 @@ render-spec =
     same-length-9
     same-length-10
     same-length-11
-    returns-2)
+    returns-2
+    render-string-requires-2
+    same-length-12
+    same-length-13
+    same-length-14
+    same-length-15
+    same-length-16
+    same-length-17
+    returns-3
+    render-modal-requires-2
+    same-length-18
+    same-length-19
+    same-length-20
+    same-length-21
+    same-length-22
+    returns-4)
