@@ -131,6 +131,45 @@ fn slow_subnormals_changes_no_bit() {
     assert!(samples.iter().any(|word| f32::from_bits(*word).is_subnormal()));
 }
 
+/// A bank with a string in slot 2, each of whose modal voice's words is the pattern.
+fn string_beside(pattern: u32) -> (Vec<u8>, Vec<f32>) {
+    let mut bytes = vec![0; raw::bank_bytes()];
+    let mut lines = vec![0.0; raw::LINES];
+    assert_eq!(raw::fresh(&mut bytes), 0);
+    assert_eq!(raw::open(&mut bytes, &mut lines, 2, 1, 48000.0), 0);
+    for word in bytes[2 * SLOT_BYTES..][..SLOT_BYTES - 1][4 * 24..].chunks_mut(4) {
+        word.copy_from_slice(&pattern.to_le_bytes());
+    }
+    (bytes, lines)
+}
+
+/// The words of slot 2's modal voice.
+fn at_rest(bytes: &[u8]) -> Vec<u32> {
+    bytes[2 * SLOT_BYTES..][..SLOT_BYTES - 1][4 * 24..]
+        .chunks(4)
+        .map(|word| u32::from_le_bytes(word.try_into().expect("four bytes")))
+        .collect()
+}
+
+#[test]
+fn a_voice_at_rest_is_kept_but_a_nan() {
+    let nan = 0x7fc0_0000;
+    let kept = [0, 1, 0x8000_0000, 0x7f80_0000, 0xff80_0000, 0x3f80_0000, nan];
+    let turned = [0x7f80_0001, 0xff80_0001, 0x7fff_ffff, 0xffc0_0000];
+    for pattern in kept.into_iter().chain(turned) {
+        let after = if turned.contains(&pattern) { nan } else { pattern };
+        let (mut bytes, mut lines) = string_beside(pattern);
+        assert_eq!(raw::reset(&mut bytes, &mut lines, 2), 0);
+        assert_eq!(at_rest(&bytes), [after; 74], "{pattern:08x} after a reset");
+        let (mut bytes, mut lines) = string_beside(pattern);
+        let [mut temp, mut temp_2, mut out, mut aux] = [[0.0; 24]; 4];
+        let lent: [&mut [f32]; 4] = [&mut temp, &mut temp_2, &mut out, &mut aux];
+        let answer = raw::render(&mut bytes, &mut lines, &mut 33, 2, &strike(), lent, false);
+        assert_eq!(answer.number, 0);
+        assert_eq!(at_rest(&bytes), [after; 74], "{pattern:08x} after a render");
+    }
+}
+
 #[test]
 fn a_clone_goes_its_own_way() {
     let mut bank = both();
