@@ -27,7 +27,7 @@ pub or-false : (a b : Bool) → a || b ≡ false → (a ≡ false) × (b ≡ fal
 or-false true b e = absurd (true-false e)
 or-false false b e = (refl, e)
 
-and-true : (a b : Bool) → a && b ≡ true → (a ≡ true) × (b ≡ true)
+pub and-true : (a b : Bool) → a && b ≡ true → (a ≡ true) × (b ≡ true)
 and-true true b e = (refl, e)
 and-true false b e = absurd (true-false (sym e))
 

@@ -100,7 +100,7 @@ unfolding putWords put
 length-written k ws bs h = let e = length-bytes ws in simp (length-append, length-take, length-drop) (omega arith)
 
 -- the 98 words of a slot, and its flag
-pub whole-slot : (ws bs : List ℕ) (v : ℕ) → length bs ≡ 393 → length ws ≡ 98 → set (putWords 0 ws bs) 392 v ≡ bytes ws ++ (v ∷ [])
+whole-slot : (ws bs : List ℕ) (v : ℕ) → length bs ≡ 393 → length ws ≡ 98 → set (putWords 0 ws bs) 392 v ≡ bytes ws ++ (v ∷ [])
 unfolding putWords put
 whole-slot ws bs v lb lw =
     let l : length (bytes ws) ≡ 392 = length-bytes ws ∙ ap (λ (n : ℕ). 4 * n) lw in
@@ -212,15 +212,20 @@ modal-wrote m bs e f g l n =
     let k : length a ≡ 24 = length-floats (m .resonator .«mode_amplitude») n in
     wrote 24 50 (x ++ a) b bs (wrote 24 26 x a bs e f refl (omega arith)) g (omega arith) (omega arith)
 
+-- the words of a slot are written, and then the flag
+pub whole-wrote : (s : Slot) (v : ℕ) (bs : List ℕ) {es : List ℕ} → es ≡ putWords 0 (slotWords s) bs → length bs ≡ 393 → ModalF32 (s .modal) → v ≡ flagOf (s .modal .held) → set es 392 v ≡ encodeSlot s
+unfolding encodeSlot
+whole-wrote s v bs e l o ev =
+    ap (λ (q : List ℕ). set q 392 v) e ∙ whole-slot (slotWords s) bs v l (length-slot s o) ∙ ap (λ (q : ℕ). bytes (slotWords s) ++ (q ∷ [])) ev
+
 pub slot-wrote : (s : Slot) (v : ℕ) (bs : List ℕ) {cs ds es : List ℕ} → cs ≡ putWords 0 (s .kind ∷ []) bs → ds ≡ putWords 1 (voiceWords (s .string)) cs
     → es ≡ putWords 24 (modalWords (s .modal)) ds → length bs ≡ 393 → ModalF32 (s .modal) → v ≡ flagOf (s .modal .held) → set es 392 v ≡ encodeSlot s
-unfolding encodeSlot slotWords
+unfolding slotWords
 slot-wrote s v bs e f g l o ev =
     let a = voiceWords (s .string) in
     let b = modalWords (s .modal) in
     let k = length-voice (s .string) in
-    let w = wrote 0 24 (s .kind ∷ a) b bs (wrote 0 1 (s .kind ∷ []) a bs e f refl (omega arith)) g (omega arith) (omega arith) in
-    ap (λ (q : List ℕ). set q 392 v) w ∙ whole-slot (slotWords s) bs v l (length-slot s o) ∙ ap (λ (q : ℕ). bytes (slotWords s) ++ (q ∷ [])) ev
+    whole-wrote s v bs (wrote 0 24 (s .kind ∷ a) b bs (wrote 0 1 (s .kind ∷ []) a bs e f refl (omega arith)) g (omega arith) (omega arith)) l o ev
 
 pub length-slot-bytes : (s : Slot) → ModalF32 (s .modal) → length (encodeSlot s) ≡ 393
 unfolding encodeSlot

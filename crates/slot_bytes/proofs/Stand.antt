@@ -1,13 +1,13 @@
 -- A word, and floats, written again where they stand. Assumes nothing.
 use mathlib.Core.Path.{_≡_, refl, sym, _∙_, ap}
-use mathlib.Core.Bool.{Bool, true, false, not, _&&_, cond, false≢true}
+use mathlib.Core.Bool.{Bool, true, false, not, _&&_, cond, and-true, and-assoc}
 use mathlib.Core.List.{List, [], _∷_, _++_, append-assoc}
 use Prim.Native.Nat.{ℕ, zero, suc, _+_, _*_, _/_, _%_, _<_, _≤_, _^_}
 use native.Mathlib.Omega.{arith}
 use native.Mathlib.Numerals.{add-one}
 use native.Mathlib.Nat.{div-add-mod, div-div-eq-div-mul, mod-lt, mod-eq-of-lt}
 use lib.Dec.{eqb, leb, ltb}
-use borrow.Author.Tests.{leb-true, leb-false, le-ltb, lt-ltb}
+use borrow.Author.Tests.{leb-true, leb-false, le-ltb, lt-ltb, not-true}
 use lib.ListN.{length, getD, take, drop, set, length-append}
 use lib.Seq.{set-getD, take-suc, take-all, take-take, take-append-le, drop-drop, drop-at, length-take-le}
 use lib.Ieee.{Float, nan, isNan, binary32, nanBits, ofBits, toBits}
@@ -18,9 +18,10 @@ use Rattle.ground.proofs.Nans.{is-nan}
 use Rattle.ground.proofs.Tab.{length-tab}
 use Rattle.slot_bytes.specs.Words.{wordOf, words, bytes, putWords, each}
 use Rattle.slots.specs.declared.slots.Slot.{Slot}
+use Rattle.bank.proofs.Accepted as accepted
 use Rattle.claims.specs.Claim.{Each}
 use Rattle.slot_bytes.specs.Layout.{F32, BatchF32, ModalF32, All, bits, floatIn, floatsIn, noNan, modeIn, batchIn, modalIn, slotIn, decodeSlot, floatWords, modeWords, batchWords, voiceWords, modalWords, slotWords, flagOf, encodeSlot}
-use Rattle.slot_bytes.proofs.Little.{stored, bytes-append, length-bytes, whole-slot, length-voice, length-modal, length-slot, Written, written-begin, written-turn, written-end}
+use Rattle.slot_bytes.proofs.Little.{stored, bytes-append, length-bytes, whole-wrote, length-voice, length-modal, Written, written-begin, written-turn, written-end}
 
 -- ---- a word
 
@@ -92,10 +93,6 @@ unfolding floatWords
 float-stands k w bs h e s n =
     let f : nanBits binary32 w ≡ false = nanBits-is binary32 w ∙ ap (λ (v : ℕ). isNan (ofBits binary32 v)) e ∙ not-true (isNan (floatIn (words bs) k)) n in
     ap (λ (v : ℕ). putWords k (bits (ofBits binary32 v) ∷ []) bs) (sym e) ∙ ap (λ (v : ℕ). putWords k (v ∷ []) bs) (by-test w h false f) ∙ s
-  where
-    not-true : (b : Bool) → not b ≡ true → b ≡ false
-    not-true true e = absurd (false≢true e)
-    not-true false e = refl
 
 -- ---- n floats from the k-th on
 
@@ -107,20 +104,8 @@ tab-at (suc n) (suc i) f d h = tab-at n i (λ j. f (suc j)) d (omega arith)
 
 none-more : (xs : List Float) (x : Float) → noNan (xs ++ (x ∷ [])) ≡ noNan xs && not (isNan x)
 unfolding noNan
-none-more [] x = last (not (isNan x))
-  where
-    last : (b : Bool) → b && true ≡ true && b
-    last true = refl
-    last false = refl
-none-more (y ∷ xs) x = ap (λ (b : Bool). not (isNan y) && b) (none-more xs x) ∙ turned (not (isNan y)) (noNan xs) (not (isNan x))
-  where
-    turned : (a b c : Bool) → a && (b && c) ≡ a && b && c
-    turned true b c = refl
-    turned false b c = refl
-
-both : (a b : Bool) → a && b ≡ true → (a ≡ true) × (b ≡ true)
-both true b e = (refl, e)
-both false b e = absurd (false≢true e)
+none-more [] x = and-true (not (isNan x))
+none-more (y ∷ xs) x = ap (λ (b : Bool). not (isNan y) && b) (none-more xs x) ∙ sym (and-assoc (not (isNan y)) (noNan xs) (not (isNan x)))
 
 -- the first i of them are looked at
 pub record Standing (bs : List ℕ) (k n i : ℕ) (stand : Bool) : Type 0 where
@@ -148,7 +133,7 @@ module _ {bs : List ℕ} {k n : ℕ} where
             ∙ ap (λ (y : Float). noNan (take i xs ++ (y ∷ []))) (sym x)
             ∙ ap noNan (sym (ap (λ (j : ℕ). take j xs) (add-one i) ∙ take-suc xs i nan (omega arith)));
         written = λ t.
-            let u = both stand r t in
+            let u = accepted.and-true stand r t in
             written-turn k 1 one (k + i) nan (s .written (u .0)) (omega arith) (sym (ap (λ (y : Float). putWords (k + i) (floatWords y) bs) x ∙ f (u .1))) (omega arith) (omega arith);
       }
 
@@ -220,7 +205,7 @@ wrote-below k j ws vs bs e f ej h =
 
 pub string-wrote : (s : Slot) (n v : ℕ) (bs : List ℕ) {cs ds es : List ℕ} → cs ≡ putWords 24 (modalWords (s .modal)) bs → ds ≡ putWords 1 (voiceWords (s .string)) cs
     → es ≡ putWords 0 (n ∷ []) ds → length bs ≡ 393 → ModalF32 (s .modal) → n ≡ s .kind → v ≡ flagOf (s .modal .held) → set es 392 v ≡ encodeSlot s
-unfolding encodeSlot slotWords
+unfolding slotWords
 string-wrote s n v bs e f g l o en ev =
     let a = voiceWords (s .string) in
     let b = modalWords (s .modal) in
@@ -228,4 +213,4 @@ string-wrote s n v bs e f g l o en ev =
     let m = length-modal (s .modal) o in
     let t = length-append a b in
     let w = wrote-below 0 1 (n ∷ []) (a ++ b) bs (wrote-below 1 24 a b bs e f (omega arith) (omega arith)) g refl (omega arith) in
-    ap (λ (q : List ℕ). set q 392 v) (w ∙ ap (λ (j : ℕ). putWords 0 (j ∷ (a ++ b)) bs) en) ∙ whole-slot (slotWords s) bs v l (length-slot s o) ∙ ap (λ (q : ℕ). bytes (slotWords s) ++ (q ∷ [])) ev
+    whole-wrote s v bs (w ∙ ap (λ (j : ℕ). putWords 0 (j ∷ (a ++ b)) bs) en) l o ev

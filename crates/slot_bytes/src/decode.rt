@@ -198,7 +198,7 @@ pub fn string_nth(bytes: &[u8], slot: usize) -> StringVoice
     requires { ⌜ (slot < 8) × (length (now bytes) ≡ 3144) ⌝ }
     ensures { λ r. ⌜ r ≡ slotAt (decodeBank (now (bytes .entry))) slot .string ⌝ }
 {
-    let from = 393 * slot;
-    let to = from + 393;
-    voice_at(&bytes[from..to])
+    let base = 393 * slot;
+    let end = base + 393;
+    voice_at(&bytes[base..end])
 }

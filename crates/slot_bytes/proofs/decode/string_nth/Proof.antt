@@ -10,11 +10,11 @@ use borrow.Author.Needs.{needs}
 use Rattle.slot_bytes.proofs.decode.string_nth.Statement.{statement}
 use Rattle.slot_bytes.proofs.decode.string_nth.Tie as tie
 
-mul-from : tie.Need-mul-from
-mul-from c = search needs
+mul-base : tie.Need-mul-base
+mul-base c = search needs
 
-add-to : tie.Need-add-to
-add-to c = search needs
+add-end : tie.Need-add-end
+add-end c = search needs
 
 sub-voice-at : tie.Need-sub-voice-at
 sub-voice-at c = search needs
@@ -36,8 +36,8 @@ pub string-nth-spec : {M : Type 1} → statement M
 string-nth-spec =
     tie.close
     (tie.spec
-    mul-from
-    add-to
+    mul-base
+    add-end
     sub-voice-at
     part-voice-at-start
     part-voice-at-end
