@@ -4,6 +4,7 @@ pub mod Frames
 pub mod Lead
 pub mod Tab
 pub mod Exchange
+pub mod Halves
 pub mod Part
 pub mod Words
 pub mod Rounding

@@ -5,3 +5,4 @@ pub mod Halves
 pub mod Drawn
 pub mod Held
 pub mod OneLoop
+pub mod Parts

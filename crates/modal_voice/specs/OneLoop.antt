@@ -51,14 +51,18 @@ sungOf k s m one two temp temp2 out aux =
 abbrev pub sameMemory : ResonatorSvf → ResonatorSvf → Bool
 sameMemory s t = sameFloat (s .«state_1») (t .«state_1») && sameFloat (s .«state_2») (t .«state_2»)
 
+-- what the filter keeps
+abbrev pub memory : Ahead → ResonatorSvf
+memory o = record { «state_1» = o .«state_1»; «state_2» = o .«state_2» }
+
 -- a sample through the filter, with whether its memory stands
 unfoldable pub passOf : Mode → ResonatorSvf → Float → Ahead
-passOf k s x = let u = lowStep k s x nan in record { svf = u .0; x = u .1; stands = sameMemory s (u .0) }
+passOf k s x = let u = lowStep k s x nan in record { «state_1» = u .0 .«state_1»; «state_2» = u .0 .«state_2»; x = u .1; stands = sameMemory s (u .0) }
 
 -- a filter that stands makes the same of the same sample
 abbrev pub Stays : Mode → Ahead → Float → Type 0
-Stays k o x = o .stands ≡ true → passOf k (o .svf) x ≡ o
+Stays k o x = o .stands ≡ true → passOf k (memory o) x ≡ o
 
 -- the filter past the frame i; past the last it stands as it is
 unfoldable pub aheadOf : Mode → ResonatorSvf → List Float → ℕ → Ahead
-aheadOf k s xs i = cond (ltb i (length xs)) (passOf k s (getD xs i nan)) (record { svf = s; x = c0; stands = false })
+aheadOf k s xs i = cond (ltb i (length xs)) (passOf k s (getD xs i nan)) (record { «state_1» = s .«state_1»; «state_2» = s .«state_2»; x = c0; stands = false })

@@ -1,13 +1,14 @@
 // Simple modal synthesis voice with a mallet exciter: click -> LPF -> resonator. With sustain the click is replaced by dust.
 ghost use mathlib.Core.Path.{_≡_};
 ghost use mathlib.Core.Bool.{true, false, cond};
-ghost use Prim.Native.Nat.{_+_, _<_};
+ghost use Prim.Native.Nat.{_+_, _<_, _≤_};
 ghost use lib.ListN.{length, getD};
 ghost use lib.Ieee.{nan};
 ghost use Rattle.ground.specs.F32.{_⊗_, c0·7, c1·5, c2, c4, c36, c60};
 ghost use Rattle.ground.specs.Draw.{ret, run, Ran};
-ghost use Rattle.noise.specs.Excitation.{Alike};
-ghost use Rattle.modal_voice.specs.OneLoop.{Framed, framesOf, Sung, sungOf, sameMemory, passOf, Stays, aheadOf};
+ghost use Rattle.noise.specs.Excitation.{Alike, added};
+ghost use Rattle.modes.specs.Resonator.{lowBlock};
+ghost use Rattle.modal_voice.specs.OneLoop.{Framed, framesOf, Sung, sungOf, sameMemory, memory, passOf, Stays, aheadOf};
 ghost use Rattle.modal_voice.specs.ModalVoice.{voiceNew, voiceInit, cutoffFor, strikeOf, clicked, excitation, heldAfter, excitationWords, excitationCounts, Excited, exciteOf, Sounded, soundOf, After, renderOf};
 use modes::resonator::Batch;
 use modes::resonator::Mode;
@@ -134,9 +135,10 @@ fn counts_of(sustain: bool, n: usize) -> Counts
     }
 }
 
-// The excitation filter after a frame, what it gave there, and whether its memory stands.
+// What the excitation filter keeps after a frame, what it gave there, and whether its memory stands.
 pub struct Ahead {
-    pub svf: ResonatorSvf,
+    pub state_1: f32,
+    pub state_2: f32,
     pub x: f32,
     pub stands: bool,
 }
@@ -147,27 +149,30 @@ pub struct Filtered {
     pub mode_filters: [Batch; 6],
 }
 
-// Whether the memory of two filters is the same.
-fn stands(s: ResonatorSvf, t: ResonatorSvf) -> bool
-    ensures { λ r. ⌜ (r ≡ sameMemory s t) × (r ≡ true → s ≡ t) ⌝ }
+// Whether the memory of two filters is the same, a and b that of the one and c and d that of the other.
+fn stands(a: f32, b: f32, c: f32, d: f32) -> bool
+    ensures { λ r. ⌜ (r ≡ sameMemory (record { «state_1» = a; «state_2» = b }) (record { «state_1» = c; «state_2» = d })) × (r ≡ true → (a ≡ c) × (b ≡ d)) ⌝ }
 {
-    if ground::bits::same(s.state_1, t.state_1) {
-        return ground::bits::same(s.state_2, t.state_2);
+    if ground::bits::same(a, c) {
+        return ground::bits::same(b, d);
     }
     false
 }
 
 // A sample through the excitation filter; `around` subnormal products where its memory is small.
-fn pass(around: bool, k: Mode, s: ResonatorSvf, in_: f32) -> Ahead
-    ensures { λ r. ⌜ (r ≡ passOf k s in_) × Stays k r in_ ⌝ }
+fn pass(around: bool, k: Mode, state_1: f32, state_2: f32, in_: f32) -> Ahead
+    ensures { λ r. ⌜ (r ≡ passOf k (record { «state_1» = «state_1»; «state_2» = «state_2» }) in_) × Stays k r in_ ⌝ }
 {
+    let s = ResonatorSvf { state_1, state_2 };
     let small = around & modes::resonator::is_small(s);
     let t = modes::resonator::tick_at(small, k, s, in_);
-    let svf = t.svf;
+    let after_1 = t.svf.state_1;
+    let after_2 = t.svf.state_2;
     Ahead {
-        svf,
+        state_1: after_1,
+        state_2: after_2,
         x: 0.0 + modes::resonator::scale(small, k.gain, t.lp),
-        stands: stands(s, svf),
+        stands: stands(state_1, state_2, after_1, after_2),
     }
 }
 
@@ -176,10 +181,11 @@ fn filter_first(k: Mode, s: ResonatorSvf, temp: &[f32]) -> Ahead
     ensures { λ r. ⌜ (r ≡ aheadOf k s (now (temp .entry)) 0) × Stays k r (getD (now (temp .entry)) 0 nan) ⌝ }
 {
     if 0 < temp.len() {
-        return pass(false, k, s, temp[0]);
+        return pass(false, k, s.state_1, s.state_2, temp[0]);
     }
     Ahead {
-        svf: s,
+        state_1: s.state_1,
+        state_2: s.state_2,
         x: 0.0,
         stands: false,
     }
@@ -188,25 +194,168 @@ fn filter_first(k: Mode, s: ResonatorSvf, temp: &[f32]) -> Ahead
 // The excitation filter past the frame i + 1, where o is the filter past the frame i.
 fn filter_on(around: bool, k: Mode, o: Ahead, temp: &[f32], i: usize) -> Ahead
     requires { ⌜ Stays k o (getD (now temp) i nan) × (i < length (now temp)) ⌝ }
-    ensures { λ r. ⌜ (r ≡ aheadOf k (o .svf) (now (temp .entry)) (i + 1)) × Stays k r (getD (now (temp .entry)) (i + 1) nan) ⌝ }
+    ensures { λ r. ⌜ (r ≡ aheadOf k (memory o) (now (temp .entry)) (i + 1)) × Stays k r (getD (now (temp .entry)) (i + 1) nan) ⌝ }
 {
-    let svf = o.svf;
     if i + 1 < temp.len() {
         if o.stands {
             if ground::bits::same(temp[i], temp[i + 1]) {
                 return o;
             }
         }
-        return pass(around, k, svf, temp[i + 1]);
+        return pass(around, k, o.state_1, o.state_2, temp[i + 1]);
     }
     Ahead {
-        svf,
+        state_1: o.state_1,
+        state_2: o.state_2,
         x: 0.0,
         stands: false,
     }
 }
 
-// Each frame, with subnormal products as they come. The excitation filter is a frame ahead of the modes, so that neither waits for the other.
+// Each frame through all modes. The excitation filter is a frame ahead of the modes, so that neither waits for the other.
+fn frames_loud(
+    k: Mode,
+    s: ResonatorSvf,
+    g: &[f32; 24],
+    r_plus_g: &[f32; 24],
+    h: &[f32; 24],
+    gain: &[f32; 24],
+    state_1: &mut [f32; 24],
+    state_2: &mut [f32; 24],
+    temp: &[f32],
+    temp_2: &mut [f32],
+    out: &mut [f32],
+    aux: &mut [f32],
+) -> ResonatorSvf
+    requires { ⌜ Alike (now temp) (now «temp_2») (now out) (now aux) × (length (now «state_1») ≡ 24) × (length (now «state_2») ≡ 24) ⌝ }
+    ensures { λ r. ⌜ record { filter = r; «state_1» = now («state_1» .exit); «state_2» = now («state_2» .exit); temp2 = now («temp_2» .exit); out = now (out .exit); aux = now (aux .exit) } ≡ sungOf k s (record { g = now (g .entry); «r_plus_g» = now («r_plus_g» .entry); h = now (h .entry); gain = now (gain .entry) }) (now («state_1» .entry)) (now («state_2» .entry)) (now (temp .entry)) (now («temp_2» .entry)) (now (out .entry)) (now (aux .entry)) ⌝ }
+{
+    let n = temp.len();
+    let mut filter_1 = s.state_1;
+    let mut filter_2 = s.state_2;
+    let mut ahead = filter_first(k, s, temp);
+    let mut i = 0;
+    while i < n {
+        let x = ahead.x;
+        ahead = filter_on(false, k, ahead, temp, i);
+        filter_1 = ahead.state_1;
+        filter_2 = ahead.state_2;
+        temp_2[i] = x;
+        aux[i] += x;
+        out[i] = modes::resonator::frame_loud(g, r_plus_g, h, gain, state_1, state_2, x, out[i]);
+        i += 1;
+    }
+    ResonatorSvf {
+        state_1: filter_1,
+        state_2: filter_2,
+    }
+}
+
+// The excitation filter over all frames, and its mix into aux.
+fn filter_frames(
+    k: Mode,
+    s: ResonatorSvf,
+    temp: &[f32],
+    temp_2: &mut [f32],
+    aux: &mut [f32],
+) -> ResonatorSvf
+    requires { ⌜ (length (now «temp_2») ≡ length (now temp)) × (length (now aux) ≡ length (now temp)) ⌝ }
+    ensures { λ r. ⌜ ((r, now («temp_2» .exit)) ≡ lowBlock k s (now (temp .entry)) (now («temp_2» .entry))) × (now (aux .exit) ≡ added (now («temp_2» .exit)) (now (aux .entry))) ⌝ }
+{
+    let n = temp.len();
+    let mut filter_1 = s.state_1;
+    let mut filter_2 = s.state_2;
+    let mut ahead = filter_first(k, s, temp);
+    let mut i = 0;
+    while i < n {
+        let given = ahead.x;
+        ahead = filter_on(false, k, ahead, temp, i);
+        filter_1 = ahead.state_1;
+        filter_2 = ahead.state_2;
+        temp_2[i] = given;
+        aux[i] += given;
+        i += 1;
+    }
+    ResonatorSvf {
+        state_1: filter_1,
+        state_2: filter_2,
+    }
+}
+
+// At most 64 frames, the filter and each half of the modes by itself.
+fn frames_apart(
+    k: Mode,
+    s: ResonatorSvf,
+    g: &[f32; 24],
+    r_plus_g: &[f32; 24],
+    h: &[f32; 24],
+    gain: &[f32; 24],
+    state_1: &mut [f32; 24],
+    state_2: &mut [f32; 24],
+    temp: &[f32],
+    temp_2: &mut [f32],
+    out: &mut [f32],
+    aux: &mut [f32],
+) -> ResonatorSvf
+    requires { ⌜ (length (now temp) ≤ 64) × Alike (now temp) (now «temp_2») (now out) (now aux) × (length (now «state_1») ≡ 24) × (length (now «state_2») ≡ 24) ⌝ }
+    ensures { λ r. ⌜ record { filter = r; «state_1» = now («state_1» .exit); «state_2» = now («state_2» .exit); temp2 = now («temp_2» .exit); out = now (out .exit); aux = now (aux .exit) } ≡ sungOf k s (record { g = now (g .entry); «r_plus_g» = now («r_plus_g» .entry); h = now (h .entry); gain = now (gain .entry) }) (now («state_1» .entry)) (now («state_2» .entry)) (now (temp .entry)) (now («temp_2» .entry)) (now (out .entry)) (now (aux .entry)) ⌝ }
+{
+    let filter = filter_frames(k, s, temp, temp_2, aux);
+    halves::run_halves(g, r_plus_g, h, gain, state_1, state_2, temp_2, out);
+    filter
+}
+
+// At most 64 frames, apart where modes have died away.
+fn frames_some(
+    k: Mode,
+    s: ResonatorSvf,
+    g: &[f32; 24],
+    r_plus_g: &[f32; 24],
+    h: &[f32; 24],
+    gain: &[f32; 24],
+    state_1: &mut [f32; 24],
+    state_2: &mut [f32; 24],
+    temp: &[f32],
+    temp_2: &mut [f32],
+    out: &mut [f32],
+    aux: &mut [f32],
+) -> ResonatorSvf
+    requires { ⌜ (length (now temp) ≤ 64) × Alike (now temp) (now «temp_2») (now out) (now aux) × (length (now «state_1») ≡ 24) × (length (now «state_2») ≡ 24) ⌝ }
+    ensures { λ r. ⌜ record { filter = r; «state_1» = now («state_1» .exit); «state_2» = now («state_2» .exit); temp2 = now («temp_2» .exit); out = now (out .exit); aux = now (aux .exit) } ≡ sungOf k s (record { g = now (g .entry); «r_plus_g» = now («r_plus_g» .entry); h = now (h .entry); gain = now (gain .entry) }) (now («state_1» .entry)) (now («state_2» .entry)) (now (temp .entry)) (now («temp_2» .entry)) (now (out .entry)) (now (aux .entry)) ⌝ }
+{
+    if modes::resonator::rests(state_1, state_2) {
+        return frames_apart(
+            k,
+            s,
+            g,
+            r_plus_g,
+            h,
+            gain,
+            state_1,
+            state_2,
+            temp,
+            temp_2,
+            out,
+            aux,
+        );
+    }
+    frames_loud(
+        k,
+        s,
+        g,
+        r_plus_g,
+        h,
+        gain,
+        state_1,
+        state_2,
+        temp,
+        temp_2,
+        out,
+        aux,
+    )
+}
+
+// All frames, with subnormal products as they come.
 fn frames_plain(
     k: Mode,
     s: ResonatorSvf,
@@ -225,19 +374,27 @@ fn frames_plain(
     ensures { λ r. ⌜ record { filter = r; «state_1» = now («state_1» .exit); «state_2» = now («state_2» .exit); temp2 = now («temp_2» .exit); out = now (out .exit); aux = now (aux .exit) } ≡ sungOf k s (record { g = now (g .entry); «r_plus_g» = now («r_plus_g» .entry); h = now (h .entry); gain = now (gain .entry) }) (now («state_1» .entry)) (now («state_2» .entry)) (now (temp .entry)) (now («temp_2» .entry)) (now (out .entry)) (now (aux .entry)) ⌝ }
 {
     let n = temp.len();
-    let mut filter = s;
-    let mut ahead = filter_first(k, filter, temp);
+    let mut kept = s;
     let mut i = 0;
     while i < n {
-        let x = ahead.x;
-        ahead = filter_on(false, k, ahead, temp, i);
-        filter = ahead.svf;
-        temp_2[i] = x;
-        aux[i] += x;
-        out[i] = modes::resonator::frame_loud(g, r_plus_g, h, gain, state_1, state_2, x, out[i]);
-        i += 1;
+        let end = utils::min_usize(i + 64, n);
+        kept = frames_some(
+            k,
+            kept,
+            g,
+            r_plus_g,
+            h,
+            gain,
+            state_1,
+            state_2,
+            &temp[i..end],
+            &mut temp_2[i..end],
+            &mut out[i..end],
+            &mut aux[i..end],
+        );
+        i = end;
     }
-    filter
+    kept
 }
 
 // The same, around subnormal products.
@@ -263,20 +420,25 @@ fn frames_around(
         high: false,
     };
     let n = temp.len();
-    let mut filter = s;
-    let mut ahead = filter_first(k, filter, temp);
+    let mut filter_1 = s.state_1;
+    let mut filter_2 = s.state_2;
+    let mut ahead = filter_first(k, s, temp);
     let mut i = 0;
     while i < n {
         let x = ahead.x;
         ahead = filter_on(true, k, ahead, temp, i);
-        filter = ahead.svf;
+        filter_1 = ahead.state_1;
+        filter_2 = ahead.state_2;
         temp_2[i] = x;
         aux[i] += x;
         quiet = modes::resonator::quiet_at(quiet, state_1, state_2, x, i);
         out[i] = modes::resonator::frame(quiet, g, r_plus_g, h, gain, state_1, state_2, x, out[i]);
         i += 1;
     }
-    filter
+    ResonatorSvf {
+        state_1: filter_1,
+        state_2: filter_2,
+    }
 }
 
 // The one or the other.

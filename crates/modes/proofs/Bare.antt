@@ -236,30 +236,30 @@ more x s f g e b = (
 )
 
 module _ (p : List Float) (h : (t : ℕ) → T (fits binary32 (getD p t nan))) where
-  batch-is : (b : ℕ) → batchSum p b ≡ bareSum p b ⊕ c0
+  batch-is : (a d : ℕ) → batchSum p a d ≡ bareSum p a d ⊕ c0
   unfolding batchSum bareSum
-  batch-is b = four (getD p b nan) (getD p (6 + b) nan) (getD p (12 + b) nan) (getD p (18 + b) nan) (h b) (h (6 + b)) (h (12 + b)) (h (18 + b))
+  batch-is a d = four (getD p a nan) (getD p (a + d) nan) (getD p (a + 2 * d) nan) (getD p (a + 3 * d) nan) (h a) (h (a + d)) (h (a + 2 * d)) (h (a + 3 * d))
 
-  bare-fits : (b : ℕ) → T (fits binary32 (bareSum p b))
+  bare-fits : (a d : ℕ) → T (fits binary32 (bareSum p a d))
   unfolding bareSum
-  bare-fits b = add-fits binary32 (getD p b nan ⊕ getD p (6 + b) nan ⊕ getD p (12 + b) nan) (getD p (18 + b) nan)
+  bare-fits a d = add-fits binary32 (getD p a nan ⊕ getD p (a + d) nan ⊕ getD p (a + 2 * d) nan) (getD p (a + 3 * d) nan)
 
   -- the code's order of additions gives the Rust's sum
   pub add-bare : (y : Float) → T (fits binary32 y) → addBare y p ≡ addBatches y p
   unfolding addBare addBatches
   add-bare y f =
       let s = bareSum p in
-      let x₀ = y ⊕ s 0 in
-      let x₁ = x₀ ⊕ s 1 in
-      let x₂ = x₁ ⊕ s 2 in
-      let x₃ = x₂ ⊕ s 3 in
-      let x₄ = x₃ ⊕ s 4 in
-      let b₀ : Both x₀ (y ⊕ c0 ⊕ s 0) (y ⊕ batchSum p 0) = (past y (s 0) f (bare-fits 0), ap (λ (z : Float). y ⊕ z) (batch-is 0) ∙ inside y (s 0) f (bare-fits 0)) in
-      let b₁ = more x₀ (s 1) (add-fits binary32 y (s 0)) (bare-fits 1) (batch-is 1) b₀ in
-      let b₂ = more x₁ (s 2) (add-fits binary32 x₀ (s 1)) (bare-fits 2) (batch-is 2) b₁ in
-      let b₃ = more x₂ (s 3) (add-fits binary32 x₁ (s 2)) (bare-fits 3) (batch-is 3) b₂ in
-      let b₄ = more x₃ (s 4) (add-fits binary32 x₂ (s 3)) (bare-fits 4) (batch-is 4) b₃ in
-      let b₅ = more x₄ (s 5) (add-fits binary32 x₃ (s 4)) (bare-fits 5) (batch-is 5) b₄ in
+      let x₀ = y ⊕ s 0 4 in
+      let x₁ = x₀ ⊕ s 1 4 in
+      let x₂ = x₁ ⊕ s 2 4 in
+      let x₃ = x₂ ⊕ s 3 4 in
+      let x₄ = x₃ ⊕ s 16 1 in
+      let b₀ : Both x₀ (y ⊕ c0 ⊕ s 0 4) (y ⊕ batchSum p 0 4) = (past y (s 0 4) f (bare-fits 0 4), ap (λ (z : Float). y ⊕ z) (batch-is 0 4) ∙ inside y (s 0 4) f (bare-fits 0 4)) in
+      let b₁ = more x₀ (s 1 4) (add-fits binary32 y (s 0 4)) (bare-fits 1 4) (batch-is 1 4) b₀ in
+      let b₂ = more x₁ (s 2 4) (add-fits binary32 x₀ (s 1 4)) (bare-fits 2 4) (batch-is 2 4) b₁ in
+      let b₃ = more x₂ (s 3 4) (add-fits binary32 x₁ (s 2 4)) (bare-fits 3 4) (batch-is 3 4) b₂ in
+      let b₄ = more x₃ (s 16 1) (add-fits binary32 x₂ (s 3 4)) (bare-fits 16 1) (batch-is 16 1) b₃ in
+      let b₅ = more x₄ (s 20 1) (add-fits binary32 x₃ (s 16 1)) (bare-fits 20 1) (batch-is 20 1) b₄ in
       b₅ .0 ∙ sym (b₅ .1)
 
 -- what a table has fits, where all of its values do

@@ -9,7 +9,7 @@ use lib.Dec.{T}
 use lib.Ieee.{Float, nan, binary32, fits}
 use lib.Ieee.Fits.{mul-fits}
 use Rattle.ground.specs.F32.{_⊕_, _⊖_, _⊗_, c1, c2}
-use Rattle.ground.proofs.Tab.{Stored, stored-read, stored-turn, length-tab}
+use Rattle.ground.proofs.Tab.{Stored, stored-begin, stored-read, stored-turn, stored-end, length-tab}
 use Rattle.modes.specs.declared.resonator.Mode.{Mode}
 use Rattle.modes.specs.declared.resonator.ResonatorSvf.{ResonatorSvf}
 use Rattle.modes.specs.declared.resonator.Ticked.{Ticked}
@@ -41,18 +41,18 @@ ticked-here k x {f} {g} {one₀} {two₀} {one} {two} {i} a b la lb e =
     e ∙ ap₂ (λ (u v : Float). tickOf k (record { «state_1» = u; «state_2» = v }) x) (stored-read nan a la) (stored-read nan b lb)
 
 -- the modes below i are ticked, of states that were one₀ and two₀
-pub record Ticks (k : Modes) (x : Float) (one₀ two₀ bands₀ : List Float) (i : ℕ) (one two bands : List Float) : Type 0 where
+record Ticks (k : Modes) (x : Float) (one₀ two₀ bands₀ : List Float) (i : ℕ) (one two bands : List Float) : Type 0 where
   pub first : Stored (λ t. tickIn k one₀ two₀ x t .svf .«state_1») one₀ i one
   pub second : Stored (λ t. tickIn k one₀ two₀ x t .svf .«state_2») two₀ i two
   pub heard : Stored (λ t. getD (k .gain) t nan ⊗ tickIn k one₀ two₀ x t .bp) bands₀ i bands
 
--- at most four of a row are not tested
-pub plain-le : (low : Bool) (n : ℕ) → n ≡ plainOf low → n ≤ 4
+-- at most 16 are not tested
+pub plain-le : (low : Bool) (n : ℕ) → n ≡ plainOf low → n ≤ 16
 plain-le true n e = omega (arith, e)
 plain-le false n e = omega (arith, e)
 
 -- a place more is ticked, and n more
-module _ (k : Modes) (x : Float) {one₀ two₀ bands₀ : List Float} (la : length one₀ ≡ 24) (lb : length two₀ ≡ 24) (lc : length bands₀ ≡ 24) where
+module _ (k : Modes) (x : Float) (one₀ two₀ bands₀ : List Float) (la : length one₀ ≡ 24) (lb : length two₀ ≡ 24) (lc : length bands₀ ≡ 24) where
   ticks-place : (b : Bands) (i : ℕ) → Ticks k x one₀ two₀ bands₀ i (b .«state_1») (b .«state_2») (b .bands) → i < 24
       → Ticks k x one₀ two₀ bands₀ (i + 1) (placeOf k b x i .«state_1») (placeOf k b x i .«state_2») (placeOf k b x i .bands)
   ticks-place b i u l =
@@ -63,36 +63,35 @@ module _ (k : Modes) (x : Float) {one₀ two₀ bands₀ : List Float} (la : len
         heard = stored-turn (u .heard) (omega (arith, lc, l)) (ap (λ (o : Ticked). getD (k .gain) i nan ⊗ o .bp) e);
       }
 
-  ticks-on : (n : ℕ) (b : Bands) (i : ℕ) → Ticks k x one₀ two₀ bands₀ i (b .«state_1») (b .«state_2») (b .bands) → i + n ≤ 24
-      → (let c = placesOf n k b x i in Ticks k x one₀ two₀ bands₀ (i + n) (c .«state_1») (c .«state_2») (c .bands))
-  ticks-on zero b i u l =
-      let p : i ≡ i + 0 = omega arith in
+  ticks-on : (n : ℕ) (b : Bands) (i j : ℕ) → Ticks k x one₀ two₀ bands₀ i (b .«state_1») (b .«state_2») (b .bands) → i + n ≡ j → j ≤ 24
+      → (let c = placesOf n k b x i in Ticks k x one₀ two₀ bands₀ j (c .«state_1») (c .«state_2») (c .bands))
+  ticks-on zero b i j u e l =
+      let p : i ≡ j = omega (arith, e) in
       subst (λ (m : ℕ). Ticks k x one₀ two₀ bands₀ m (b .«state_1») (b .«state_2») (b .bands)) p u
-  ticks-on (suc n) b i u l =
-      let p : i + 1 + n ≡ i + suc n = omega arith in
-      let c = placesOf n k (placeOf k b x i) x (i + 1) in
-      subst (λ (m : ℕ). Ticks k x one₀ two₀ bands₀ m (c .«state_1») (c .«state_2») (c .bands)) p
-      (ticks-on n (placeOf k b x i) (i + 1) (ticks-place b i u (omega (arith, l))) (omega (arith, l)))
+  ticks-on (suc n) b i j u e l = ticks-on n (placeOf k b x i) (i + 1) j (ticks-place b i u (omega (arith, e, l))) (omega (arith, e)) l
 
-  ticks-places : (n : ℕ) (b b' : Bands) (i : ℕ) → Ticks k x one₀ two₀ bands₀ i (b .«state_1») (b .«state_2») (b .bands) → i + n ≤ 24 → b' ≡ placesOf n k b x i
-      → Ticks k x one₀ two₀ bands₀ (i + n) (b' .«state_1») (b' .«state_2») (b' .bands)
-  ticks-places n b b' i u l e = subst (λ (c : Bands). Ticks k x one₀ two₀ bands₀ (i + n) (c .«state_1») (c .«state_2») (c .bands)) (sym e) (ticks-on n b i u l)
+  ticks-places : (n : ℕ) (b b' : Bands) (i j : ℕ) → Ticks k x one₀ two₀ bands₀ i (b .«state_1») (b .«state_2») (b .bands) → i + n ≡ j → j ≤ 24 → b' ≡ placesOf n k b x i
+      → Ticks k x one₀ two₀ bands₀ j (b' .«state_1») (b' .«state_2») (b' .bands)
+  ticks-places n b b' i j u e l f = subst (λ (c : Bands). Ticks k x one₀ two₀ bands₀ j (c .«state_1») (c .«state_2») (c .bands)) (sym f) (ticks-on n b i j u e l)
 
-  -- a row: those that are not tested, then the others
-  pub ticks-row : (low : Bool) (b b' b'' : Bands) (i n : ℕ) → Ticks k x one₀ two₀ bands₀ i (b .«state_1») (b .«state_2») (b .bands) → i + 6 ≤ 24 → n ≡ plainOf low
-      → b' ≡ placesOf (plainOf low) k b x i → b'' ≡ placesOf (i + 6 - (i + n)) k b' x (i + n)
-      → Ticks k x one₀ two₀ bands₀ (i + 6) (b'' .«state_1») (b'' .«state_2») (b'' .bands)
-  ticks-row low b b' b'' i n u l en e e' =
+  -- those that are not tested, then the others
+  pub ticks-all : (low : Bool) (b b' : Bands) (n : ℕ) → n ≡ plainOf low
+      → b ≡ placesOf (plainOf low) k (record { «state_1» = one₀; «state_2» = two₀; bands = bands₀ }) x 0 → b' ≡ placesOf (24 - n) k b x n
+      → b' ≡ bandsOf k one₀ two₀ x
+  unfolding bandsOf
+  ticks-all low b b' n en e e' =
+      let w : Bands = record { «state_1» = one₀; «state_2» = two₀; bands = bands₀ } in
       let h = plain-le low n en in
-      let p : i + n + (i + 6 - (i + n)) ≡ i + 6 = omega (arith, h) in
-      let f = e ∙ ap (λ (m : ℕ). placesOf m k b x i) (sym en) in
-      subst (λ (m : ℕ). Ticks k x one₀ two₀ bands₀ m (b'' .«state_1») (b'' .«state_2») (b'' .bands)) p
-      (ticks-places (i + 6 - (i + n)) b' b'' (i + n) (ticks-places n b b' i u (omega (arith, h, l)) f) (omega (arith, h, l)) e')
+      let f = e ∙ ap (λ (m : ℕ). placesOf m k w x 0) (sym en) in
+      let u = ticks-places n w b 0 n (record { first = stored-begin; second = stored-begin; heard = stored-begin }) (omega arith) (omega (arith, h)) f in
+      let v = ticks-places (24 - n) b b' n 24 u (omega (arith, h)) (omega arith) e' in
+      λ j. record {
+        «state_1» = stored-end {n = 24} (v .first) refl (sym la) j;
+        «state_2» = stored-end {n = 24} (v .second) refl (sym lb) j;
+        bands = stored-end {n = 24} (v .heard) refl (sym lc) j;
+      }
 
 -- a loop over places, by what is still to do
-pub places-begin : (k : Modes) (b : Bands) (x : Float) (i : ℕ) → placesOf (i + 4 - i) k b x i ≡ placesOf 4 k b x i
-places-begin k b x i = let s : i + 4 - i ≡ 4 = omega arith in ap (λ (n : ℕ). placesOf n k b x i) s
-
 pub place-turn : (k : Modes) (b : Bands) (x : Float) (j e : ℕ) {o : Ticked} {z : Float} {r : Bands}
     → placesOf (e - j) k b x j ≡ r → j < e → o ≡ tickOf (modeIn k j) (stateAt (b .«state_1») (b .«state_2») j) x → z ≡ getD (k .gain) j nan ⊗ o .bp
     → placesOf (e - (j + 1)) k (record { «state_1» = set (b .«state_1») j (o .svf .«state_1»); «state_2» = set (b .«state_2») j (o .svf .«state_2»); bands = set (b .bands) j z }) x (j + 1) ≡ r

@@ -19,22 +19,22 @@ use Rattle.modes.specs.declared.resonator.Resonator.{Resonator}
 use Rattle.modes.specs.declared.resonator.States.{States}
 use Rattle.modes.specs.declared.resonator.Tuned.{Tuned}
 use Rattle.modes.specs.Resonator.{bandStep, modeAt, modesFrom, batchStep, inBatches, batches, compensation, lossOf, firstOf, processOf}
-use Rattle.modes.specs.OnePass.{partialAt, tuned, modesOf, modesFor, modeHere, putBatch, noBatch, statesOf, batchAt, filtersOf, bandsOf, batchSum, addBatches, frameOf, onePass}
+use Rattle.modes.specs.OnePass.{partialAt, tuned, modesOf, modesFor, modeHere, placeFirst, placeApart, putBatch, noBatch, statesOf, batchAt, filtersOf, bandsOf, batchSum, addBatches, frameOf, onePass}
 
 -- ---- what the modes keep, in batches and side by side
 
 -- six batches put to their places
 pub all-put : (fs : List Batch) {one₁ two₁ one₂ two₂ one₃ two₃ one₄ two₄ one₅ two₅ one two : List Float}
-    → _≡_ {A = List Float × List Float} (one₁, two₁) (putBatch (getD fs 0 noBatch) 0 (replicate 24 c0) (replicate 24 c0))
-    → _≡_ {A = List Float × List Float} (one₂, two₂) (putBatch (getD fs 1 noBatch) 1 one₁ two₁)
-    → _≡_ {A = List Float × List Float} (one₃, two₃) (putBatch (getD fs 2 noBatch) 2 one₂ two₂)
-    → _≡_ {A = List Float × List Float} (one₄, two₄) (putBatch (getD fs 3 noBatch) 3 one₃ two₃)
-    → _≡_ {A = List Float × List Float} (one₅, two₅) (putBatch (getD fs 4 noBatch) 4 one₄ two₄)
-    → _≡_ {A = List Float × List Float} (one, two) (putBatch (getD fs 5 noBatch) 5 one₅ two₅)
+    → _≡_ {A = List Float × List Float} (one₁, two₁) (putBatch (getD fs 0 noBatch) 0 4 (replicate 24 c0) (replicate 24 c0))
+    → _≡_ {A = List Float × List Float} (one₂, two₂) (putBatch (getD fs 1 noBatch) 1 4 one₁ two₁)
+    → _≡_ {A = List Float × List Float} (one₃, two₃) (putBatch (getD fs 2 noBatch) 2 4 one₂ two₂)
+    → _≡_ {A = List Float × List Float} (one₄, two₄) (putBatch (getD fs 3 noBatch) 3 4 one₃ two₃)
+    → _≡_ {A = List Float × List Float} (one₅, two₅) (putBatch (getD fs 4 noBatch) 16 1 one₄ two₄)
+    → _≡_ {A = List Float × List Float} (one, two) (putBatch (getD fs 5 noBatch) 20 1 one₅ two₅)
     → _≡_ {A = States} (record { «state_1» = one; «state_2» = two }) (statesOf fs)
 unfolding statesOf putBatch tab
 all-put fs e₁ e₂ e₃ e₄ e₅ e₆ =
-    let on : ℕ → List Float × List Float → List Float × List Float = λ b s. putBatch (getD fs b noBatch) b (s .0) (s .1) in
+    let on : ℕ → List Float × List Float → List Float × List Float = λ b s. putBatch (getD fs b noBatch) (placeFirst b) (placeApart b) (s .0) (s .1) in
     ap (λ (s : List Float × List Float). record { «state_1» = s .0; «state_2» = s .1 })
     (e₆ ∙ ap (on 5) (e₅ ∙ ap (on 4) (e₄ ∙ ap (on 3) (e₃ ∙ ap (on 2) (e₂ ∙ ap (on 1) e₁)))))
 

@@ -1,9 +1,9 @@
 -- The one-pass form of Resonator::process: the coefficients of all modes first, then each frame through all modes. What belongs to the mode k of the
--- batch b stands at the place 6 k + b. Assumes nothing.
+-- batch b stands at the place 4 k + b for the batches 0 to 3, and at 4 b + k for 4 and 5. Assumes nothing.
 use mathlib.Core.Bool.{Bool, false, not, _&&_, _||_, cond}
 use mathlib.Core.List.{List}
 use Prim.Native.Nat.{ℕ, zero, suc, _+_, _*_, _/_, _%_}
-use lib.Dec.{eqb}
+use lib.Dec.{eqb, ltb}
 use lib.ListN.{getD, set}
 use lib.Ieee.{Float, nan, lt}
 use Rattle.ground.specs.F32.{_⊕_, _⊗_, c0, c79·7}
@@ -38,7 +38,7 @@ tuned amps f0 loss p =
 
 -- the number of the mode at a place, and its coefficients
 abbrev pub modeHere : ℕ → ℕ
-modeHere t = 4 * (t % 6) + t / 6
+modeHere t = cond (ltb t 16) (4 * (t % 4) + t / 4) t
 
 abbrev pub modeThere : Tuned → ℕ → Mode
 modeThere u t = modeOf (getD (u .f) (modeHere t) nan) (getD (u .q) (modeHere t) nan) (getD (u .a) (modeHere t) nan)
@@ -62,14 +62,21 @@ modesFor amps f0 structure brightness damping =
 
 -- ---- what the modes keep
 
--- a batch's states put to their places
-abbrev pub putFour : Float → Float → Float → Float → ℕ → List Float → List Float
-putFour p q r s b xs = set (set (set (set xs b p) (6 + b) q) (12 + b) r) (18 + b) s
+-- the place of a batch's first mode, and how far the next one stands from it
+abbrev pub placeFirst : ℕ → ℕ
+placeFirst b = cond (ltb b 4) b (4 * b)
 
-unfoldable pub putBatch : Batch → ℕ → List Float → List Float → List Float × List Float
-putBatch f b one two = (
-  putFour (f .«mode_0» .«state_1») (f .«mode_1» .«state_1») (f .«mode_2» .«state_1») (f .«mode_3» .«state_1») b one,
-  putFour (f .«mode_0» .«state_2») (f .«mode_1» .«state_2») (f .«mode_2» .«state_2») (f .«mode_3» .«state_2») b two,
+abbrev pub placeApart : ℕ → ℕ
+placeApart b = cond (ltb b 4) 4 1
+
+-- a batch's states put to their places, a the first and each d from the one before
+abbrev pub putFour : Float → Float → Float → Float → ℕ → ℕ → List Float → List Float
+putFour p q r s a d xs = set (set (set (set xs a p) (a + d) q) (a + 2 * d) r) (a + 3 * d) s
+
+unfoldable pub putBatch : Batch → ℕ → ℕ → List Float → List Float → List Float × List Float
+putBatch f a d one two = (
+  putFour (f .«mode_0» .«state_1») (f .«mode_1» .«state_1») (f .«mode_2» .«state_1») (f .«mode_3» .«state_1») a d one,
+  putFour (f .«mode_0» .«state_2») (f .«mode_1» .«state_2») (f .«mode_2» .«state_2») (f .«mode_3» .«state_2») a d two,
 )
 
 -- what stands past the end of a list of batches
@@ -80,20 +87,20 @@ noBatch = record { «mode_0» = absent; «mode_1» = absent; «mode_2» = absent
 unfoldable pub statesOf : List Batch → States
 statesOf fs =
     record {
-      «state_1» = tab 24 (λ t. getD (modesIn (getD fs (t % 6) noBatch)) (t / 6) absent .«state_1»);
-      «state_2» = tab 24 (λ t. getD (modesIn (getD fs (t % 6) noBatch)) (t / 6) absent .«state_2»);
+      «state_1» = tab 24 (λ t. getD (modesIn (getD fs (modeHere t / 4) noBatch)) (modeHere t % 4) absent .«state_1»);
+      «state_2» = tab 24 (λ t. getD (modesIn (getD fs (modeHere t / 4) noBatch)) (modeHere t % 4) absent .«state_2»);
     }
 
 -- and back
 abbrev pub stateAt : List Float → List Float → ℕ → ResonatorSvf
 stateAt one two t = record { «state_1» = getD one t nan; «state_2» = getD two t nan }
 
-unfoldable pub batchAt : List Float → List Float → ℕ → Batch
-batchAt one two b =
-    record { «mode_0» = stateAt one two b; «mode_1» = stateAt one two (6 + b); «mode_2» = stateAt one two (12 + b); «mode_3» = stateAt one two (18 + b) }
+unfoldable pub batchAt : List Float → List Float → ℕ → ℕ → Batch
+batchAt one two a d =
+    record { «mode_0» = stateAt one two a; «mode_1» = stateAt one two (a + d); «mode_2» = stateAt one two (a + 2 * d); «mode_3» = stateAt one two (a + 3 * d) }
 
 unfoldable pub filtersOf : List Float → List Float → List Batch
-filtersOf one two = tab 6 (batchAt one two)
+filtersOf one two = tab 6 (λ b. batchAt one two (placeFirst b) (placeApart b))
 
 -- ---- a frame
 
@@ -131,46 +138,46 @@ abbrev pub placesOf : ℕ → Modes → Bands → Float → ℕ → Bands
 placesOf zero k b x t = b
 placesOf (suc n) k b x t = placesOf n k (placeOf k b x t) x (t + 1)
 
--- whether a mode of four from a place on is small, or of two
+-- whether a mode of four from a place on is small, or of the last 8
 abbrev pub smallFour : List Float → List Float → ℕ → Bool
 smallFour one two t =
     isSmall (stateAt one two t) || isSmall (stateAt one two (t + 1)) || isSmall (stateAt one two (t + 2)) || isSmall (stateAt one two (t + 3))
 
-abbrev pub smallPair : List Float → List Float → ℕ → Bool
-smallPair one two t = isSmall (stateAt one two t) || isSmall (stateAt one two (t + 1))
+unfoldable pub restsOf : List Float → List Float → Bool
+restsOf one two = smallFour one two 16 || smallFour one two 20
 
--- which batches have small modes, for a sample that is small
+-- where small modes are, for a sample that is small
 unfoldable pub quietOf : List Float → List Float → Float → Quiet
 quietOf one two x =
     cond (not (lt x smallPlus && lt smallMinus x))
     (record { low = false; high = false })
     (record {
-      low = smallFour one two 0 || smallFour one two 6 || smallFour one two 12 || smallFour one two 18;
-      high = smallPair one two 4 || smallPair one two 10 || smallPair one two 16 || smallPair one two 22;
+      low = smallFour one two 0 || smallFour one two 4 || smallFour one two 8 || smallFour one two 12;
+      high = restsOf one two;
     })
 
 -- the same at each 16th frame
 unfoldable pub quietAt : Quiet → List Float → List Float → Float → ℕ → Quiet
 quietAt quiet one two x i = cond (eqb (i % 16) 0) (quietOf one two x) quiet
 
--- how many modes of a row of six are not tested
+-- how many modes are not tested
 abbrev pub plainOf : Bool → ℕ
-plainOf low = cond low 0 4
+plainOf low = cond low 0 16
 
--- the sum of the batch b, and all sums added to y in turn
-unfoldable pub batchSum : List Float → ℕ → Float
-batchSum p b = c0 ⊕ getD p b nan ⊕ getD p (6 + b) nan ⊕ getD p (12 + b) nan ⊕ getD p (18 + b) nan
+-- the sum of the batch that stands at a and each d on, and all sums added to y in turn
+unfoldable pub batchSum : List Float → ℕ → ℕ → Float
+batchSum p a d = c0 ⊕ getD p a nan ⊕ getD p (a + d) nan ⊕ getD p (a + 2 * d) nan ⊕ getD p (a + 3 * d) nan
 
 unfoldable pub addBatches : Float → List Float → Float
-addBatches y p = y ⊕ batchSum p 0 ⊕ batchSum p 1 ⊕ batchSum p 2 ⊕ batchSum p 3 ⊕ batchSum p 4 ⊕ batchSum p 5
+addBatches y p = y ⊕ batchSum p 0 4 ⊕ batchSum p 1 4 ⊕ batchSum p 2 4 ⊕ batchSum p 3 4 ⊕ batchSum p 16 1 ⊕ batchSum p 20 1
 
--- the sum of the batch b with no +0 before it
-unfoldable pub bareSum : List Float → ℕ → Float
-bareSum p b = getD p b nan ⊕ getD p (6 + b) nan ⊕ getD p (12 + b) nan ⊕ getD p (18 + b) nan
+-- the sum of a batch with no +0 before it
+unfoldable pub bareSum : List Float → ℕ → ℕ → Float
+bareSum p a d = getD p a nan ⊕ getD p (a + d) nan ⊕ getD p (a + 2 * d) nan ⊕ getD p (a + 3 * d) nan
 
 -- +0 added to y, then the sum of each batch in turn
 unfoldable pub addBare : Float → List Float → Float
-addBare y p = y ⊕ c0 ⊕ bareSum p 0 ⊕ bareSum p 1 ⊕ bareSum p 2 ⊕ bareSum p 3 ⊕ bareSum p 4 ⊕ bareSum p 5
+addBare y p = y ⊕ c0 ⊕ bareSum p 0 4 ⊕ bareSum p 1 4 ⊕ bareSum p 2 4 ⊕ bareSum p 3 4 ⊕ bareSum p 16 1 ⊕ bareSum p 20 1
 
 abbrev pub frameOf : Modes → List Float × List Float → Float → Float → (List Float × List Float) × Float
 frameOf k s x y = let b = bandsOf k (s .0) (s .1) x in ((b .«state_1», b .«state_2»), addBatches y (b .bands))

@@ -1,13 +1,13 @@
 // Resonator, taken from Rings' code but with fixed position: 24 modes in six batches of four.
 ghost use mathlib.Core.Path.{_≡_};
 ghost use mathlib.Core.Bool.{cond};
-ghost use Prim.Native.Nat.{_+_, _-_, _<_, _≤_};
+ghost use Prim.Native.Nat.{_+_, _*_, _-_, _<_, _≤_};
 ghost use lib.ListN.{length};
 ghost use lib.Ieee.{lt};
 ghost use Rattle.ground.specs.F32.{_⊗_, c0, c0·93, c0·98};
 ghost use Rattle.modes.specs.Subnormal.{isSmall};
 ghost use Rattle.modes.specs.Resonator.{svfNew, modeOf, tickOf, lowBlock, filtersNew, resonatorNew, resonatorInit, capOf, shrunk, nextOf, compensation, firstOf, lossOf, processOf};
-ghost use Rattle.modes.specs.OnePass.{tuned, modesOf, modesFor, putBatch, statesOf, stateAt, batchAt, filtersOf, Bands, bandsOf, placesOf, smallFour, smallPair, quietOf, quietAt, plainOf, bareSum, addBare, frameOf, onePass};
+ghost use Rattle.modes.specs.OnePass.{tuned, modeHere, modesOf, modesFor, putBatch, statesOf, stateAt, batchAt, filtersOf, Bands, bandsOf, placesOf, smallFour, restsOf, quietOf, quietAt, plainOf, bareSum, addBare, frameOf, onePass};
 use crate::subnormal::product;
 use utils::filter::FrequencyApproximation;
 
@@ -60,7 +60,7 @@ pub struct Tuned {
     pub a: [f32; 24],
 }
 
-// The coefficients of all modes, the mode k of the batch b at 6 k + b, so that a frame adds the modes of six batches side by side.
+// The coefficients of all modes, each at its place: those of the batches 0 to 3 side by side, so that a frame adds four batches at once, and those of 4 and 5 behind them in order.
 pub struct Modes {
     pub g: [f32; 24],
     pub r_plus_g: [f32; 24],
@@ -74,7 +74,7 @@ pub struct States {
     pub state_2: [f32; 24],
 }
 
-// Whether small modes are among the batches 0 to 3, and among 4 and 5.
+// Whether small modes are among the first 16 places, and among the last 8.
 pub struct Quiet {
     pub low: bool,
     pub high: bool,
@@ -282,6 +282,17 @@ fn tune(mode_amplitude: [f32; 24], f0: f32, q_loss: f32, first: Partial) -> Tune
     Tuned { f, q, a }
 }
 
+// The number of the mode at a place.
+fn mode_here(t: usize) -> usize
+    requires { ⌜ t < 24 ⌝ }
+    ensures { λ r. ⌜ r ≡ modeHere t ⌝ }
+{
+    if t < 16 {
+        return 4 * (t % 4) + t / 4;
+    }
+    t
+}
+
 // The coefficients of all modes, each at its place.
 fn modes_of(t: Tuned) -> Modes
     ensures { λ r. ⌜ r ≡ modesOf t ⌝ }
@@ -295,7 +306,7 @@ fn modes_of(t: Tuned) -> Modes
     let mut gain = [0.0f32; 24];
     let mut i = 0;
     while i < 24 {
-        let m = 4 * (i % 6) + i / 6;
+        let m = mode_here(i);
         let k = mode_of(f[m], q[m], a[m]);
         g[i] = k.g;
         r_plus_g[i] = k.r_plus_g;
@@ -330,19 +341,25 @@ pub fn modes_for(
 
 // ---- what the modes keep, in batches and side by side
 
-// A batch's states to their places.
-fn put_batch(batch: Batch, b: usize, state_1: &mut [f32; 24], state_2: &mut [f32; 24])
-    requires { ⌜ b < 6 ⌝ }
-    ensures { λ _. ⌜ (now («state_1» .exit), now («state_2» .exit)) ≡ putBatch batch b (now («state_1» .entry)) (now («state_2» .entry)) ⌝ }
+// A batch's states to their places, the first of them and each `apart` from the one before.
+fn put_batch(
+    batch: Batch,
+    first: usize,
+    apart: usize,
+    state_1: &mut [f32; 24],
+    state_2: &mut [f32; 24],
+)
+    requires { ⌜ first + 3 * apart < 24 ⌝ }
+    ensures { λ _. ⌜ (now («state_1» .exit), now («state_2» .exit)) ≡ putBatch batch first apart (now («state_1» .entry)) (now («state_2» .entry)) ⌝ }
 {
-    state_1[b] = batch.mode_0.state_1;
-    state_1[6 + b] = batch.mode_1.state_1;
-    state_1[12 + b] = batch.mode_2.state_1;
-    state_1[18 + b] = batch.mode_3.state_1;
-    state_2[b] = batch.mode_0.state_2;
-    state_2[6 + b] = batch.mode_1.state_2;
-    state_2[12 + b] = batch.mode_2.state_2;
-    state_2[18 + b] = batch.mode_3.state_2;
+    state_1[first] = batch.mode_0.state_1;
+    state_1[first + apart] = batch.mode_1.state_1;
+    state_1[first + 2 * apart] = batch.mode_2.state_1;
+    state_1[first + 3 * apart] = batch.mode_3.state_1;
+    state_2[first] = batch.mode_0.state_2;
+    state_2[first + apart] = batch.mode_1.state_2;
+    state_2[first + 2 * apart] = batch.mode_2.state_2;
+    state_2[first + 3 * apart] = batch.mode_3.state_2;
 }
 
 pub fn states_of(mode_filters: [Batch; 6]) -> States
@@ -350,12 +367,12 @@ pub fn states_of(mode_filters: [Batch; 6]) -> States
 {
     let mut state_1 = [0.0f32; 24];
     let mut state_2 = [0.0f32; 24];
-    put_batch(mode_filters[0], 0, &mut state_1, &mut state_2);
-    put_batch(mode_filters[1], 1, &mut state_1, &mut state_2);
-    put_batch(mode_filters[2], 2, &mut state_1, &mut state_2);
-    put_batch(mode_filters[3], 3, &mut state_1, &mut state_2);
-    put_batch(mode_filters[4], 4, &mut state_1, &mut state_2);
-    put_batch(mode_filters[5], 5, &mut state_1, &mut state_2);
+    put_batch(mode_filters[0], 0, 4, &mut state_1, &mut state_2);
+    put_batch(mode_filters[1], 1, 4, &mut state_1, &mut state_2);
+    put_batch(mode_filters[2], 2, 4, &mut state_1, &mut state_2);
+    put_batch(mode_filters[3], 3, 4, &mut state_1, &mut state_2);
+    put_batch(mode_filters[4], 16, 1, &mut state_1, &mut state_2);
+    put_batch(mode_filters[5], 20, 1, &mut state_1, &mut state_2);
     States { state_1, state_2 }
 }
 
@@ -369,14 +386,14 @@ fn mode_at(state_1: &[f32; 24], state_2: &[f32; 24], t: usize) -> ResonatorSvf
     }
 }
 
-fn batch_at(state_1: &[f32; 24], state_2: &[f32; 24], b: usize) -> Batch
-    requires { ⌜ b < 6 ⌝ }
-    ensures { λ r. ⌜ r ≡ batchAt (now («state_1» .entry)) (now («state_2» .entry)) b ⌝ }
+fn batch_at(state_1: &[f32; 24], state_2: &[f32; 24], first: usize, apart: usize) -> Batch
+    requires { ⌜ first + 3 * apart < 24 ⌝ }
+    ensures { λ r. ⌜ r ≡ batchAt (now («state_1» .entry)) (now («state_2» .entry)) first apart ⌝ }
 {
-    let mode_0 = mode_at(state_1, state_2, b);
-    let mode_1 = mode_at(state_1, state_2, 6 + b);
-    let mode_2 = mode_at(state_1, state_2, 12 + b);
-    let mode_3 = mode_at(state_1, state_2, 18 + b);
+    let mode_0 = mode_at(state_1, state_2, first);
+    let mode_1 = mode_at(state_1, state_2, first + apart);
+    let mode_2 = mode_at(state_1, state_2, first + 2 * apart);
+    let mode_3 = mode_at(state_1, state_2, first + 3 * apart);
     Batch {
         mode_0,
         mode_1,
@@ -389,12 +406,12 @@ pub fn filters_of(state_1: &[f32; 24], state_2: &[f32; 24]) -> [Batch; 6]
     ensures { λ r. ⌜ r ≡ filtersOf (now («state_1» .entry)) (now («state_2» .entry)) ⌝ }
 {
     [
-        batch_at(state_1, state_2, 0),
-        batch_at(state_1, state_2, 1),
-        batch_at(state_1, state_2, 2),
-        batch_at(state_1, state_2, 3),
-        batch_at(state_1, state_2, 4),
-        batch_at(state_1, state_2, 5),
+        batch_at(state_1, state_2, 0, 4),
+        batch_at(state_1, state_2, 1, 4),
+        batch_at(state_1, state_2, 2, 4),
+        batch_at(state_1, state_2, 3, 4),
+        batch_at(state_1, state_2, 16, 1),
+        batch_at(state_1, state_2, 20, 1),
     ]
 }
 
@@ -445,15 +462,14 @@ fn any_small(state_1: &[f32; 24], state_2: &[f32; 24], i: usize) -> bool
         | is_small(mode_at(state_1, state_2, i + 3))
 }
 
-// Whether one of two is.
-fn any_pair(state_1: &[f32; 24], state_2: &[f32; 24], i: usize) -> bool
-    requires { ⌜ i + 2 ≤ 24 ⌝ }
-    ensures { λ r. ⌜ r ≡ smallPair (now («state_1» .entry)) (now («state_2» .entry)) i ⌝ }
+// Whether one of the last 8 modes is.
+pub fn rests(state_1: &[f32; 24], state_2: &[f32; 24]) -> bool
+    ensures { λ r. ⌜ r ≡ restsOf (now («state_1» .entry)) (now («state_2» .entry)) ⌝ }
 {
-    is_small(mode_at(state_1, state_2, i)) | is_small(mode_at(state_1, state_2, i + 1))
+    any_small(state_1, state_2, 16) | any_small(state_1, state_2, 20)
 }
 
-// Which batches have small modes, for a sample that is small.
+// Where small modes are, for a sample that is small.
 fn quiet_of(state_1: &[f32; 24], state_2: &[f32; 24], x: f32) -> Quiet
     ensures { λ r. ⌜ r ≡ quietOf (now («state_1» .entry)) (now («state_2» .entry)) x ⌝ }
 {
@@ -465,13 +481,10 @@ fn quiet_of(state_1: &[f32; 24], state_2: &[f32; 24], x: f32) -> Quiet
     }
     Quiet {
         low: any_small(state_1, state_2, 0)
-            | any_small(state_1, state_2, 6)
-            | any_small(state_1, state_2, 12)
-            | any_small(state_1, state_2, 18),
-        high: any_pair(state_1, state_2, 4)
-            | any_pair(state_1, state_2, 10)
-            | any_pair(state_1, state_2, 16)
-            | any_pair(state_1, state_2, 22),
+            | any_small(state_1, state_2, 4)
+            | any_small(state_1, state_2, 8)
+            | any_small(state_1, state_2, 12),
+        high: rests(state_1, state_2),
     }
 }
 
@@ -485,8 +498,8 @@ pub fn quiet_at(quiet: Quiet, state_1: &[f32; 24], state_2: &[f32; 24], x: f32, 
     quiet
 }
 
-// A sample through four modes from i on.
-fn tick_four(
+// A sample through the modes from i on and below `end`.
+pub fn tick_places(
     g: &[f32; 24],
     r_plus_g: &[f32; 24],
     h: &[f32; 24],
@@ -496,11 +509,11 @@ fn tick_four(
     bands: &mut [f32; 24],
     x: f32,
     i: usize,
+    end: usize,
 )
-    requires { ⌜ i + 4 ≤ 24 ⌝ }
-    ensures { λ _. ⌜ record { «state_1» = now («state_1» .exit); «state_2» = now («state_2» .exit); bands = now (bands .exit) } ≡ placesOf 4 (record { g = now (g .entry); «r_plus_g» = now («r_plus_g» .entry); h = now (h .entry); gain = now (gain .entry) }) (record { «state_1» = now («state_1» .entry); «state_2» = now («state_2» .entry); bands = now (bands .entry) }) x i ⌝ }
+    requires { ⌜ (i ≤ end) × (end ≤ 24) ⌝ }
+    ensures { λ _. ⌜ record { «state_1» = now («state_1» .exit); «state_2» = now («state_2» .exit); bands = now (bands .exit) } ≡ placesOf (end - i) (record { g = now (g .entry); «r_plus_g» = now («r_plus_g» .entry); h = now (h .entry); gain = now (gain .entry) }) (record { «state_1» = now («state_1» .entry); «state_2» = now («state_2» .entry); bands = now (bands .entry) }) x i ⌝ }
 {
-    let end = i + 4;
     let mut j = i;
     while j < end {
         let k = Mode {
@@ -516,12 +529,12 @@ fn tick_four(
         let t = tick(k, s, x);
         state_1[j] = t.svf.state_1;
         state_2[j] = t.svf.state_2;
-        bands[j] = scale(false, k.gain, t.bp);
+        bands[j] = k.gain * t.bp;
         j += 1;
     }
 }
 
-// A sample through the modes from i on and below `end`, each tested.
+// The same, each tested.
 fn tick_each(
     g: &[f32; 24],
     r_plus_g: &[f32; 24],
@@ -558,17 +571,17 @@ fn tick_each(
     }
 }
 
-// How many modes of a row of six are not tested.
+// How many modes are not tested.
 fn untested(low: bool) -> usize
     ensures { λ r. ⌜ r ≡ plainOf low ⌝ }
 {
     if low {
         return 0;
     }
-    4
+    16
 }
 
-// A sample through those from i on.
+// A sample through those.
 fn tick_untested(
     low: bool,
     g: &[f32; 24],
@@ -579,19 +592,17 @@ fn tick_untested(
     state_2: &mut [f32; 24],
     bands: &mut [f32; 24],
     x: f32,
-    i: usize,
 )
-    requires { ⌜ i + 4 ≤ 24 ⌝ }
-    ensures { λ _. ⌜ record { «state_1» = now («state_1» .exit); «state_2» = now («state_2» .exit); bands = now (bands .exit) } ≡ placesOf (plainOf low) (record { g = now (g .entry); «r_plus_g» = now («r_plus_g» .entry); h = now (h .entry); gain = now (gain .entry) }) (record { «state_1» = now («state_1» .entry); «state_2» = now («state_2» .entry); bands = now (bands .entry) }) x i ⌝ }
+    ensures { λ _. ⌜ record { «state_1» = now («state_1» .exit); «state_2» = now («state_2» .exit); bands = now (bands .exit) } ≡ placesOf (plainOf low) (record { g = now (g .entry); «r_plus_g» = now («r_plus_g» .entry); h = now (h .entry); gain = now (gain .entry) }) (record { «state_1» = now («state_1» .entry); «state_2» = now («state_2» .entry); bands = now (bands .entry) }) x 0 ⌝ }
 {
     if low {
         return;
     }
-    tick_four(g, r_plus_g, h, gain, state_1, state_2, bands, x, i);
+    tick_places(g, r_plus_g, h, gain, state_1, state_2, bands, x, 0, 16);
 }
 
-// `tick_all`, row by row: the modes of the batches 0 to 3 are tested at `low` only.
-fn tick_rows(
+// `tick_all`, the first 16 modes tested at `low` only.
+fn tick_tested(
     low: bool,
     g: &[f32; 24],
     r_plus_g: &[f32; 24],
@@ -605,24 +616,19 @@ fn tick_rows(
     requires { ⌜ (length (now «state_1») ≡ 24) × (length (now «state_2») ≡ 24) × (length (now bands) ≡ 24) ⌝ }
     ensures { λ _. ⌜ record { «state_1» = now («state_1» .exit); «state_2» = now («state_2» .exit); bands = now (bands .exit) } ≡ bandsOf (record { g = now (g .entry); «r_plus_g» = now («r_plus_g» .entry); h = now (h .entry); gain = now (gain .entry) }) (now («state_1» .entry)) (now («state_2» .entry)) x ⌝ }
 {
-    let mut t = 0;
-    while t < 24 {
-        tick_untested(low, g, r_plus_g, h, gain, state_1, state_2, bands, x, t);
-        let tested = t + untested(low);
-        tick_each(
-            g,
-            r_plus_g,
-            h,
-            gain,
-            state_1,
-            state_2,
-            bands,
-            x,
-            tested,
-            t + 6,
-        );
-        t += 6;
-    }
+    tick_untested(low, g, r_plus_g, h, gain, state_1, state_2, bands, x);
+    tick_each(
+        g,
+        r_plus_g,
+        h,
+        gain,
+        state_1,
+        state_2,
+        bands,
+        x,
+        untested(low),
+        24,
+    );
 }
 
 // A frame, none of whose modes is tested.
@@ -660,7 +666,7 @@ fn frame_quiet(
     ensures { λ r. ⌜ ((now («state_1» .exit), now («state_2» .exit)), r) ≡ frameOf (record { g = now (g .entry); «r_plus_g» = now («r_plus_g» .entry); h = now (h .entry); gain = now (gain .entry) }) (now («state_1» .entry), now («state_2» .entry)) x y ⌝ }
 {
     let mut bands = [0.0f32; 24];
-    tick_rows(low, g, r_plus_g, h, gain, state_1, state_2, &mut bands, x);
+    tick_tested(low, g, r_plus_g, h, gain, state_1, state_2, &mut bands, x);
     add_batches(y, &bands)
 }
 
@@ -687,12 +693,12 @@ pub fn frame(
     add_batches(y, &bands)
 }
 
-// The sum of the batch b.
-fn batch_sum(bands: &[f32; 24], b: usize) -> f32
-    requires { ⌜ b < 6 ⌝ }
-    ensures { λ r. ⌜ r ≡ bareSum (now (bands .entry)) b ⌝ }
+// The sum of a batch.
+fn batch_sum(bands: &[f32; 24], first: usize, apart: usize) -> f32
+    requires { ⌜ first + 3 * apart < 24 ⌝ }
+    ensures { λ r. ⌜ r ≡ bareSum (now (bands .entry)) first apart ⌝ }
 {
-    bands[b] + bands[6 + b] + bands[12 + b] + bands[18 + b]
+    bands[first] + bands[first + apart] + bands[first + 2 * apart] + bands[first + 3 * apart]
 }
 
 // The sum of each batch, added to y in turn; 0.0 is added once, to y, so that none of the sums has to begin with it.
@@ -701,12 +707,12 @@ pub fn add_batches(y: f32, bands: &[f32; 24]) -> f32
 {
     y
         + 0.0
-        + batch_sum(bands, 0)
-        + batch_sum(bands, 1)
-        + batch_sum(bands, 2)
-        + batch_sum(bands, 3)
-        + batch_sum(bands, 4)
-        + batch_sum(bands, 5)
+        + batch_sum(bands, 0, 4)
+        + batch_sum(bands, 1, 4)
+        + batch_sum(bands, 2, 4)
+        + batch_sum(bands, 3, 4)
+        + batch_sum(bands, 16, 1)
+        + batch_sum(bands, 20, 1)
 }
 
 // Each frame through all modes.

@@ -1,90 +1,121 @@
--- `modal_voice::frames_plain` meets its contract: the loops that it joins, each by the law of loops over frames.
+-- `modal_voice::frames_plain` meets its contract: its parts one after the other.
 use native.Mathlib.Omega.{arith}
-use Prim.Native.Nat.{_-_}
+use Prim.Native.Nat.{_+_, _-_, _≤_, min}
 use borrow.Author.Needs.{needs}
 use denote.Ref.{now}
 use Rattle.modes.specs.declared.resonator.Modes.{Modes}
-use Rattle.modal_voice.proofs.OneLoop.{Underway, underway-begin, underway-turn, underway-end}
+use Rattle.modal_voice.proofs.Parts.{Rest, part-size, rest-begin, rest-turn, rest-alike, rest-end}
 use Rattle.modal_voice.proofs.modal_voice.frames_plain.Statement.{statement}
 use Rattle.modal_voice.proofs.modal_voice.frames_plain.Tie as tie
 
 abbrev Inv-loop : tie.InvT-loop
-Inv-loop k g r-plus-g h gain state-1₀ state-2₀ temp temp-2₀ out₀ aux₀ n filter₀ ahead₀ i₀ state-1 state-2 temp-2 out aux filter ahead i =
-    Underway k filter₀ (record { g = g; «r_plus_g» = r-plus-g; h = h; gain = gain }) state-1₀ state-2₀ temp temp-2₀ out₀ aux₀ n i temp-2 out aux state-1 state-2 filter ahead
+Inv-loop k g r-plus-g h gain state-1₀ state-2₀ temp temp-2₀ out₀ aux₀ n filter₀ i₀ state-1 state-2 temp-2 out aux filter i =
+    Rest k filter₀ (record { g = g; «r_plus_g» = r-plus-g; h = h; gain = gain }) state-1₀ state-2₀ temp temp-2₀ out₀ aux₀ n i temp-2 out aux state-1 state-2 filter
 
 abbrev μ-loop : tie.MeasureT-loop
-μ-loop k g r-plus-g h gain state-1₀ state-2₀ temp temp-2₀ out₀ aux₀ n filter₀ ahead₀ i₀ state-1 state-2 temp-2 out aux filter ahead i = n - i
-
-filter-first-requires : tie.Need-filter-first-requires Inv-loop μ-loop
-filter-first-requires c κs = search needs
+μ-loop k g r-plus-g h gain state-1₀ state-2₀ temp temp-2₀ out₀ aux₀ n filter₀ i₀ state-1 state-2 temp-2 out aux filter i = n - i
 
 loop-holds : tie.Need-loop-holds Inv-loop μ-loop
 loop-holds c =
-    let s = c .before .before .before .before .before in
+    let s = c .before .before .before .before in
     let a = s .args in
     let m : Modes = record { g = now (a .g); «r_plus_g» = now (a .r-plus-g); h = now (a .h); gain = now (a .gain) } in
-    underway-begin (a .k) (a .s) m (now (a .state-1)) (now (a .state-2)) (now (a .temp)) (now (a .temp-2)) (now (a .out)) (now (a .aux)) (s .pre .0) (s .good .1 .1 .1 .1 .1 .1 .1 .1 .0 .1) (s .pre .1) (s .pre .2) (c .filter-first .ensures .0) (c .filter-first .ensures .1)
+    rest-begin (a .k) (a .s) m (now (a .state-1)) (now (a .state-2)) (now (a .temp)) (now (a .temp-2)) (now (a .out)) (now (a .aux)) (s .pre .0) (s .good .1 .1 .1 .1 .1 .1 .1 .1 .0 .1) (s .pre .1) (s .pre .2)
 
-filter-on-requires : tie.Need-filter-on-requires Inv-loop μ-loop
-filter-on-requires c κs = let v = c .before .loop .inv in (v .stays, omega (arith, v .block .all, c .loop-test))
+add-min-usize : tie.Need-add-min-usize Inv-loop μ-loop
+add-min-usize c = let v = c .before .loop .inv in omega (arith, v .within, v .small, c .loop-test)
 
-mul-temp-2 : tie.Need-mul-temp-2 Inv-loop μ-loop
-mul-temp-2 c = omega (arith, c .before .before .before .loop .inv .block, c .before .before .loop-test)
+min-usize-requires : tie.Need-min-usize-requires Inv-loop μ-loop
+min-usize-requires c κs = search needs
 
-slice-write-temp-2 : tie.Need-slice-write-temp-2 Inv-loop μ-loop
-slice-write-temp-2 c = omega (arith, c .before .before .before .loop .inv .block, c .before .before .loop-test)
+mul-frames-some : tie.Need-mul-frames-some Inv-loop μ-loop
+mul-frames-some c = let v = c .before .before .before .before .loop .inv in omega (arith, v .within, v .small, v .all, c .before .before .before .loop-test, c .before .before .min-usize .ensures)
 
-mul-aux : tie.Need-mul-aux Inv-loop μ-loop
-mul-aux c = omega (arith, c .before .before .before .loop .inv .block, c .before .before .loop-test)
+sub-frames-some : tie.Need-sub-frames-some Inv-loop μ-loop
+sub-frames-some c = let v = c .before .before .before .before .loop .inv in omega (arith, v .within, v .small, v .all, c .before .before .before .loop-test, c .before .before .min-usize .ensures)
 
-slice-read-aux : tie.Need-slice-read-aux Inv-loop μ-loop
-slice-read-aux c = omega (arith, c .before .before .before .before .loop .inv .block, c .before .before .before .loop-test)
+part-frames-some-start : tie.Need-part-frames-some-start Inv-loop μ-loop
+part-frames-some-start c = let v = c .before .before .before .before .loop .inv in omega (arith, v .within, v .small, v .all, c .before .before .before .loop-test, c .before .before .min-usize .ensures)
 
-slice-write-aux : tie.Need-slice-write-aux Inv-loop μ-loop
-slice-write-aux c = omega (arith, c .before .before .before .before .loop .inv .block, c .before .before .before .loop-test)
+part-frames-some-end : tie.Need-part-frames-some-end Inv-loop μ-loop
+part-frames-some-end c = let v = c .before .before .before .before .loop .inv in omega (arith, v .within, v .small, v .all, c .before .before .before .loop-test, c .before .before .min-usize .ensures)
 
-mul-frame-loud : tie.Need-mul-frame-loud Inv-loop μ-loop
-mul-frame-loud c = omega (arith, c .before .before .before .before .before .before .loop .inv .block, c .before .before .before .before .before .loop-test)
+mul-frames-some-2 : tie.Need-mul-frames-some-2 Inv-loop μ-loop
+mul-frames-some-2 c = let v = c .before .before .before .before .before .loop .inv in omega (arith, v .within, v .small, v .temp2-size, c .before .before .before .before .loop-test, c .before .before .before .min-usize .ensures)
 
-slice-read-frame-loud : tie.Need-slice-read-frame-loud Inv-loop μ-loop
-slice-read-frame-loud c = omega (arith, c .before .before .before .before .before .before .before .loop .inv .block, c .before .before .before .before .before .before .loop-test)
+sub-frames-some-2 : tie.Need-sub-frames-some-2 Inv-loop μ-loop
+sub-frames-some-2 c = let v = c .before .before .before .before .before .loop .inv in omega (arith, v .within, v .small, v .temp2-size, c .before .before .before .before .loop-test, c .before .before .before .min-usize .ensures)
 
-frame-loud-requires : tie.Need-frame-loud-requires Inv-loop μ-loop
-frame-loud-requires c κs = let v = c .before .before .before .before .before .before .before .loop .inv in (v .one-size, v .two-size)
+part-frames-some-start-2 : tie.Need-part-frames-some-start-2 Inv-loop μ-loop
+part-frames-some-start-2 c = let v = c .before .before .before .before .before .loop .inv in omega (arith, v .within, v .small, v .temp2-size, c .before .before .before .before .loop-test, c .before .before .before .min-usize .ensures)
 
-mul-out : tie.Need-mul-out Inv-loop μ-loop
-mul-out c = omega (arith, c .before .before .before .before .before .before .before .before .loop .inv .block, c .before .before .before .before .before .before .before .loop-test)
+part-frames-some-end-2 : tie.Need-part-frames-some-end-2 Inv-loop μ-loop
+part-frames-some-end-2 c = let v = c .before .before .before .before .before .loop .inv in omega (arith, v .within, v .small, v .temp2-size, c .before .before .before .before .loop-test, c .before .before .before .min-usize .ensures)
 
-slice-write-out : tie.Need-slice-write-out Inv-loop μ-loop
-slice-write-out c = omega (arith, c .before .before .before .before .before .before .before .before .loop .inv .block, c .before .before .before .before .before .before .before .loop-test)
+mul-frames-some-3 : tie.Need-mul-frames-some-3 Inv-loop μ-loop
+mul-frames-some-3 c = let v = c .before .before .before .before .before .before .loop .inv in omega (arith, v .within, v .small, v .out-size, c .before .before .before .before .before .loop-test, c .before .before .before .before .min-usize .ensures)
 
-add-i : tie.Need-add-i Inv-loop μ-loop
-add-i c = omega (arith, c .before .before .before .before .before .before .before .before .loop .inv .block, c .before .before .before .before .before .before .before .loop-test)
+sub-frames-some-3 : tie.Need-sub-frames-some-3 Inv-loop μ-loop
+sub-frames-some-3 c = let v = c .before .before .before .before .before .before .loop .inv in omega (arith, v .within, v .small, v .out-size, c .before .before .before .before .before .loop-test, c .before .before .before .before .min-usize .ensures)
+
+part-frames-some-start-3 : tie.Need-part-frames-some-start-3 Inv-loop μ-loop
+part-frames-some-start-3 c = let v = c .before .before .before .before .before .before .loop .inv in omega (arith, v .within, v .small, v .out-size, c .before .before .before .before .before .loop-test, c .before .before .before .before .min-usize .ensures)
+
+part-frames-some-end-3 : tie.Need-part-frames-some-end-3 Inv-loop μ-loop
+part-frames-some-end-3 c = let v = c .before .before .before .before .before .before .loop .inv in omega (arith, v .within, v .small, v .out-size, c .before .before .before .before .before .loop-test, c .before .before .before .before .min-usize .ensures)
+
+mul-frames-some-4 : tie.Need-mul-frames-some-4 Inv-loop μ-loop
+mul-frames-some-4 c = let v = c .before .before .before .before .before .before .before .loop .inv in omega (arith, v .within, v .small, v .aux-size, c .before .before .before .before .before .before .loop-test, c .before .before .before .before .before .min-usize .ensures)
+
+sub-frames-some-4 : tie.Need-sub-frames-some-4 Inv-loop μ-loop
+sub-frames-some-4 c = let v = c .before .before .before .before .before .before .before .loop .inv in omega (arith, v .within, v .small, v .aux-size, c .before .before .before .before .before .before .loop-test, c .before .before .before .before .before .min-usize .ensures)
+
+part-frames-some-start-4 : tie.Need-part-frames-some-start-4 Inv-loop μ-loop
+part-frames-some-start-4 c = let v = c .before .before .before .before .before .before .before .loop .inv in omega (arith, v .within, v .small, v .aux-size, c .before .before .before .before .before .before .loop-test, c .before .before .before .before .before .min-usize .ensures)
+
+part-frames-some-end-4 : tie.Need-part-frames-some-end-4 Inv-loop μ-loop
+part-frames-some-end-4 c = let v = c .before .before .before .before .before .before .before .loop .inv in omega (arith, v .within, v .small, v .aux-size, c .before .before .before .before .before .before .loop-test, c .before .before .before .before .before .min-usize .ensures)
+
+frames-some-requires : tie.Need-frames-some-requires Inv-loop μ-loop
+frames-some-requires c κs =
+    let a = c .before .before .before .before .before .before .before .before .before .before .before .before .before .args in
+    let m : Modes = record { g = now (a .g); «r_plus_g» = now (a .r-plus-g); h = now (a .h); gain = now (a .gain) } in
+    let v = c .before .before .before .before .before .before .before .before .loop .inv in
+    let i = c .before .before .before .before .before .before .before .before .loop .i in
+    let e = c .before .before .before .before .before .before .min-usize .result in
+    let p = c .before .before .before .before .before .before .min-usize .ensures in
+    let l : i ≤ e = omega (arith, v .within, c .before .before .before .before .before .before .before .loop-test, p) in
+    let z = part-size i e (now (a .temp)) l (omega (arith, v .all, p)) in (
+      omega (arith, z, p),
+      rest-alike (a .k) (a .s) m (now (a .state-1)) (now (a .state-2)) (now (a .temp)) (now (a .temp-2)) (now (a .out)) (now (a .aux)) v l (omega (arith, p)),
+      v .one-size,
+      v .two-size,
+    )
 
 loop-less : tie.Need-loop-less Inv-loop μ-loop
-loop-less c = omega (arith, c .before .before .before .before .before .before .before .before .loop .inv .block, c .before .before .before .before .before .before .before .loop-test)
+loop-less c = let v = c .before .before .before .before .before .before .before .before .before .before .before .before .before .before .before .loop .inv in omega (arith, v .within, c .before .before .before .before .before .before .before .before .before .before .before .before .before .before .loop-test, c .before .before .before .before .before .before .before .before .before .before .before .before .before .min-usize .ensures)
 
 loop-again : tie.Need-loop-again Inv-loop μ-loop
 loop-again c =
-    let a = c .before .before .before .before .before .before .before .before .before .before .before .before .before .before .args in
+    let a = c .before .before .before .before .before .before .before .before .before .before .before .before .before .before .before .before .before .before .before .before .args in
     let m : Modes = record { g = now (a .g); «r_plus_g» = now (a .r-plus-g); h = now (a .h); gain = now (a .gain) } in
-    let q = c .before .before .before .before .before .before .filter-on .ensures in
-    underway-turn (a .k) (a .s) m (now (a .state-1)) (now (a .state-2)) (now (a .temp)) (now (a .temp-2)) (now (a .out)) (now (a .aux)) (c .before .before .before .before .before .before .before .before .loop .inv) (c .before .before .before .before .before .before .before .loop-test .taken) (q .0) (q .1) (c .frame-loud .ensures)
+    let v = c .before .before .before .before .before .before .before .before .before .before .before .before .before .before .before .loop .inv in
+    rest-turn (a .k) (a .s) m (now (a .state-1)) (now (a .state-2)) (now (a .temp)) (now (a .temp-2)) (now (a .out)) (now (a .aux)) v (omega (arith, v .within, c .before .before .before .before .before .before .before .before .before .before .before .before .before .before .loop-test, c .before .before .before .before .before .before .before .before .before .before .before .before .before .min-usize .ensures)) (omega (arith, c .before .before .before .before .before .before .before .before .before .before .before .before .before .min-usize .ensures)) (c .before .before .before .before .before .before .frames-some .ensures)
 
 same-length : tie.Need-same-length Inv-loop μ-loop
-same-length c = let v = c .before .loop .inv in omega (arith, v .block, v .lead .done .size)
+same-length c = let v = c .before .loop .inv in omega (arith, v .temp2-size, v .all, c .before .before .before .before .before .before .pre .0 .temp2-is)
 
 same-length-2 : tie.Need-same-length-2 Inv-loop μ-loop
-same-length-2 c = let v = c .before .loop .inv in omega (arith, v .block, v .sung .size)
+same-length-2 c = let v = c .before .loop .inv in omega (arith, v .out-size, v .all, c .before .before .before .before .before .before .pre .0 .out-is)
 
 same-length-3 : tie.Need-same-length-3 Inv-loop μ-loop
-same-length-3 c = let v = c .before .loop .inv in omega (arith, v .block, v .mixed .size)
+same-length-3 c = let v = c .before .loop .inv in omega (arith, v .aux-size, v .all, c .before .before .before .before .before .before .pre .0 .aux-is)
 
 returns : tie.Need-returns Inv-loop μ-loop
 returns c =
-    let a = c .before .before .before .before .before .before .before .args in
+    let a = c .before .before .before .before .before .before .args in
     let m : Modes = record { g = now (a .g); «r_plus_g» = now (a .r-plus-g); h = now (a .h); gain = now (a .gain) } in
-    underway-end (a .k) (a .s) m (now (a .state-1)) (now (a .state-2)) (now (a .temp)) (now (a .temp-2)) (now (a .out)) (now (a .aux)) (c .before .loop .inv) (c .loop-test .left)
+    rest-end (a .k) (a .s) m (now (a .state-1)) (now (a .state-2)) (now (a .temp)) (now (a .temp-2)) (now (a .out)) (now (a .aux)) (c .before .loop .inv) (c .loop-test .left)
 
 pub frames-plain-spec : {M : Type 1} → statement M
 frames-plain-spec =
@@ -92,20 +123,26 @@ frames-plain-spec =
     (tie.spec
     Inv-loop
     μ-loop
-    filter-first-requires
     loop-holds
-    filter-on-requires
-    mul-temp-2
-    slice-write-temp-2
-    mul-aux
-    slice-read-aux
-    slice-write-aux
-    mul-frame-loud
-    slice-read-frame-loud
-    frame-loud-requires
-    mul-out
-    slice-write-out
-    add-i
+    add-min-usize
+    min-usize-requires
+    mul-frames-some
+    sub-frames-some
+    part-frames-some-start
+    part-frames-some-end
+    mul-frames-some-2
+    sub-frames-some-2
+    part-frames-some-start-2
+    part-frames-some-end-2
+    mul-frames-some-3
+    sub-frames-some-3
+    part-frames-some-start-3
+    part-frames-some-end-3
+    mul-frames-some-4
+    sub-frames-some-4
+    part-frames-some-start-4
+    part-frames-some-end-4
+    frames-some-requires
     loop-less
     loop-again
     same-length

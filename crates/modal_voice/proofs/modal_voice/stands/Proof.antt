@@ -13,7 +13,7 @@ same-requires-2 c κs = search needs
 returns : tie.Need-returns
 returns c =
     let e1 = c .before .before .same .ensures .1 (c .before .if1 .taken) in
-    (rw (← (c .before .before .same .ensures .0), c .before .if1 .taken) (c .same2 .ensures .0), λ e. λ i. record { «state_1» = e1 i; «state_2» = c .same2 .ensures .1 e i })
+    (rw (← (c .before .before .same .ensures .0), c .before .if1 .taken) (c .same2 .ensures .0), λ e. (e1, c .same2 .ensures .1 e))
 
 returns-2 : tie.Need-returns-2
 returns-2 c = (rw (← (c .before .same .ensures .0), c .if1 .left), λ e. absurd (false≢true e))

@@ -13,11 +13,17 @@ add-mode-at c = search needs
 mode-at-requires-2 : tie.Need-mode-at-requires-2
 mode-at-requires-2 c κs = search needs
 
+mul-mode-at : tie.Need-mul-mode-at
+mul-mode-at c = search needs
+
 add-mode-at-2 : tie.Need-add-mode-at-2
 add-mode-at-2 c = search needs
 
 mode-at-requires-3 : tie.Need-mode-at-requires-3
 mode-at-requires-3 c κs = search needs
+
+mul-mode-at-2 : tie.Need-mul-mode-at-2
+mul-mode-at-2 c = search needs
 
 add-mode-at-3 : tie.Need-add-mode-at-3
 add-mode-at-3 c = search needs
@@ -36,8 +42,10 @@ batch-at-spec =
     mode-at-requires
     add-mode-at
     mode-at-requires-2
+    mul-mode-at
     add-mode-at-2
     mode-at-requires-3
+    mul-mode-at-2
     add-mode-at-3
     mode-at-requires-4
     returns)

@@ -20,20 +20,26 @@ mul-result-2 c = search needs
 element-copy-out-result-2 : tie.Need-element-copy-out-result-2
 element-copy-out-result-2 c = search needs
 
+mul-result-3 : tie.Need-mul-result-3
+mul-result-3 c = search needs
+
 add-result-2 : tie.Need-add-result-2
 add-result-2 c = search needs
 
-mul-result-3 : tie.Need-mul-result-3
-mul-result-3 c = search needs
+mul-result-4 : tie.Need-mul-result-4
+mul-result-4 c = search needs
 
 element-copy-out-result-3 : tie.Need-element-copy-out-result-3
 element-copy-out-result-3 c = search needs
 
+mul-result-5 : tie.Need-mul-result-5
+mul-result-5 c = search needs
+
 add-result-3 : tie.Need-add-result-3
 add-result-3 c = search needs
 
-mul-result-4 : tie.Need-mul-result-4
-mul-result-4 c = search needs
+mul-result-6 : tie.Need-mul-result-6
+mul-result-6 c = search needs
 
 element-copy-out-result-4 : tie.Need-element-copy-out-result-4
 element-copy-out-result-4 c = search needs
@@ -51,10 +57,12 @@ batch-sum-spec =
     add-result
     mul-result-2
     element-copy-out-result-2
-    add-result-2
     mul-result-3
-    element-copy-out-result-3
-    add-result-3
+    add-result-2
     mul-result-4
+    element-copy-out-result-3
+    mul-result-5
+    add-result-3
+    mul-result-6
     element-copy-out-result-4
     returns)

@@ -20,20 +20,26 @@ mul-state-1-2 c = search needs
 element-write-state-1-2 : tie.Need-element-write-state-1-2
 element-write-state-1-2 c = search needs
 
+mul-state-1-3 : tie.Need-mul-state-1-3
+mul-state-1-3 c = search needs
+
 add-state-1-2 : tie.Need-add-state-1-2
 add-state-1-2 c = search needs
 
-mul-state-1-3 : tie.Need-mul-state-1-3
-mul-state-1-3 c = search needs
+mul-state-1-4 : tie.Need-mul-state-1-4
+mul-state-1-4 c = search needs
 
 element-write-state-1-3 : tie.Need-element-write-state-1-3
 element-write-state-1-3 c = search needs
 
+mul-state-1-5 : tie.Need-mul-state-1-5
+mul-state-1-5 c = search needs
+
 add-state-1-3 : tie.Need-add-state-1-3
 add-state-1-3 c = search needs
 
-mul-state-1-4 : tie.Need-mul-state-1-4
-mul-state-1-4 c = search needs
+mul-state-1-6 : tie.Need-mul-state-1-6
+mul-state-1-6 c = search needs
 
 element-write-state-1-4 : tie.Need-element-write-state-1-4
 element-write-state-1-4 c = search needs
@@ -53,20 +59,26 @@ mul-state-2-2 c = search needs
 element-write-state-2-2 : tie.Need-element-write-state-2-2
 element-write-state-2-2 c = search needs
 
+mul-state-2-3 : tie.Need-mul-state-2-3
+mul-state-2-3 c = search needs
+
 add-state-2-2 : tie.Need-add-state-2-2
 add-state-2-2 c = search needs
 
-mul-state-2-3 : tie.Need-mul-state-2-3
-mul-state-2-3 c = search needs
+mul-state-2-4 : tie.Need-mul-state-2-4
+mul-state-2-4 c = search needs
 
 element-write-state-2-3 : tie.Need-element-write-state-2-3
 element-write-state-2-3 c = search needs
 
+mul-state-2-5 : tie.Need-mul-state-2-5
+mul-state-2-5 c = search needs
+
 add-state-2-3 : tie.Need-add-state-2-3
 add-state-2-3 c = search needs
 
-mul-state-2-4 : tie.Need-mul-state-2-4
-mul-state-2-4 c = search needs
+mul-state-2-6 : tie.Need-mul-state-2-6
+mul-state-2-6 c = search needs
 
 element-write-state-2-4 : tie.Need-element-write-state-2-4
 element-write-state-2-4 c = search needs
@@ -84,21 +96,25 @@ put-batch-spec =
     add-state-1
     mul-state-1-2
     element-write-state-1-2
-    add-state-1-2
     mul-state-1-3
-    element-write-state-1-3
-    add-state-1-3
+    add-state-1-2
     mul-state-1-4
+    element-write-state-1-3
+    mul-state-1-5
+    add-state-1-3
+    mul-state-1-6
     element-write-state-1-4
     mul-state-2
     element-write-state-2
     add-state-2
     mul-state-2-2
     element-write-state-2-2
-    add-state-2-2
     mul-state-2-3
-    element-write-state-2-3
-    add-state-2-3
+    add-state-2-2
     mul-state-2-4
+    element-write-state-2-3
+    mul-state-2-5
+    add-state-2-3
+    mul-state-2-6
     element-write-state-2-4
     returns)

@@ -23,23 +23,14 @@ any-small-requires-3 c κs = search needs
 any-small-requires-4 : tie.Need-any-small-requires-4
 any-small-requires-4 c κs = search needs
 
-any-pair-requires : tie.Need-any-pair-requires
-any-pair-requires c κs = search needs
-
-any-pair-requires-2 : tie.Need-any-pair-requires-2
-any-pair-requires-2 c κs = search needs
-
-any-pair-requires-3 : tie.Need-any-pair-requires-3
-any-pair-requires-3 c κs = search needs
-
-any-pair-requires-4 : tie.Need-any-pair-requires-4
-any-pair-requires-4 c κs = search needs
+rests-requires : tie.Need-rests-requires
+rests-requires c κs = search needs
 
 returns-2 : tie.Need-returns-2
 unfolding quietOf ofBits neg
 returns-2 c =
-    (λ j. record { low = c .before .before .before .before .before .before .before .any-small .ensures j || c .before .before .before .before .before .before .any-small2 .ensures j || c .before .before .before .before .before .any-small3 .ensures j || c .before .before .before .before .any-small4 .ensures j; high = c .before .before .before .any-pair .ensures j || c .before .before .any-pair2 .ensures j || c .before .any-pair3 .ensures j || c .any-pair4 .ensures j })
-    ∙ rw (c .before .before .before .before .before .before .before .before .if1 .left)
+    (λ j. record { low = c .before .before .before .before .any-small .ensures j || c .before .before .before .any-small2 .ensures j || c .before .before .any-small3 .ensures j || c .before .any-small4 .ensures j; high = c .rests .ensures j })
+    ∙ rw (c .before .before .before .before .before .if1 .left)
 
 pub quiet-of-spec : {M : Type 1} → statement M
 quiet-of-spec =
@@ -50,8 +41,5 @@ quiet-of-spec =
     any-small-requires-2
     any-small-requires-3
     any-small-requires-4
-    any-pair-requires
-    any-pair-requires-2
-    any-pair-requires-3
-    any-pair-requires-4
+    rests-requires
     returns-2)

@@ -1,34 +1,27 @@
--- `resonator::tick_four` meets its contract, by what is still to do.
-use mathlib.Core.Path.{_≡_}
-use Prim.Native.Nat.{_+_, _-_, _≤_}
+-- `resonator::tick_places` meets its contract, by what is still to do.
+use mathlib.Core.Path.{_≡_, refl}
+use Prim.Native.Nat.{_-_, _≤_}
 use denote.Ref.{now}
 use Rattle.modes.specs.declared.resonator.Modes.{Modes}
 use Rattle.modes.specs.OnePass.{Bands, placesOf}
-use Rattle.modes.proofs.Frame.{places-begin, place-turn, places-end}
+use Rattle.modes.proofs.Frame.{place-turn, places-end}
 use native.Mathlib.Omega.{arith}
 use borrow.Author.Needs.{needs}
-use Rattle.modes.proofs.resonator.tick_four.Statement.{statement}
-use Rattle.modes.proofs.resonator.tick_four.Tie as tie
+use Rattle.modes.proofs.resonator.tick_places.Statement.{statement}
+use Rattle.modes.proofs.resonator.tick_places.Tie as tie
 
 abbrev Inv-loop : tie.InvT-loop
 Inv-loop g r-plus-g h gain state-1₀ state-2₀ bands₀ x i end j₀ state-1 state-2 bands j =
     let k : Modes = record { g = g; «r_plus_g» = r-plus-g; h = h; gain = gain } in
     (placesOf (end - j) k (record { «state_1» = state-1; «state_2» = state-2; bands = bands }) x j
-    ≡ placesOf 4 k (record { «state_1» = state-1₀; «state_2» = state-2₀; bands = bands₀ }) x i)
+    ≡ placesOf (end - i) k (record { «state_1» = state-1₀; «state_2» = state-2₀; bands = bands₀ }) x i)
     × (j ≤ end) × (end ≤ 24)
 
 abbrev μ-loop : tie.MeasureT-loop
 μ-loop g r-plus-g h gain state-1₀ state-2₀ bands₀ x i end j₀ state-1 state-2 bands j = end - j
 
-add-end : tie.Need-add-end Inv-loop μ-loop
-add-end c = omega arith
-
 loop-holds : tie.Need-loop-holds Inv-loop μ-loop
-loop-holds c =
-    let a = c .args in
-    let k : Modes = record { g = now (a .g); «r_plus_g» = now (a .r-plus-g); h = now (a .h); gain = now (a .gain) } in
-    let w : Bands = record { «state_1» = now (a .state-1); «state_2» = now (a .state-2); bands = now (a .bands) } in
-    (places-begin k w (a .x) (a .i), omega arith, omega arith)
+loop-holds c = (refl, c .pre .0, c .pre .1)
 
 mul-t16 : tie.Need-mul-t16 Inv-loop μ-loop
 mul-t16 c = omega (arith, c .before .loop .inv .1, c .before .loop .inv .2, c .loop-test)
@@ -81,30 +74,27 @@ mul-state-2 c = omega (arith, c .before .before .before .before .before .before 
 element-write-state-2 : tie.Need-element-write-state-2 Inv-loop μ-loop
 element-write-state-2 c = omega (arith, c .before .before .before .before .before .before .before .before .loop .inv .1, c .before .before .before .before .before .before .before .before .loop .inv .2, c .before .before .before .before .before .before .before .loop-test)
 
-scale-requires : tie.Need-scale-requires Inv-loop μ-loop
-scale-requires c κs = search needs
-
 mul-bands-3 : tie.Need-mul-bands-3 Inv-loop μ-loop
-mul-bands-3 c = omega (arith, c .before .before .before .before .before .before .before .before .before .loop .inv .1, c .before .before .before .before .before .before .before .before .before .loop .inv .2, c .before .before .before .before .before .before .before .before .loop-test)
+mul-bands-3 c = omega (arith, c .before .before .before .before .before .before .before .before .before .before .loop .inv .1, c .before .before .before .before .before .before .before .before .before .before .loop .inv .2, c .before .before .before .before .before .before .before .before .before .loop-test)
 
 element-write-bands : tie.Need-element-write-bands Inv-loop μ-loop
-element-write-bands c = omega (arith, c .before .before .before .before .before .before .before .before .before .loop .inv .1, c .before .before .before .before .before .before .before .before .before .loop .inv .2, c .before .before .before .before .before .before .before .before .loop-test)
+element-write-bands c = omega (arith, c .before .before .before .before .before .before .before .before .before .before .loop .inv .1, c .before .before .before .before .before .before .before .before .before .before .loop .inv .2, c .before .before .before .before .before .before .before .before .before .loop-test)
 
 add-j : tie.Need-add-j Inv-loop μ-loop
-add-j c = omega (arith, c .before .before .before .before .before .before .before .before .before .loop .inv .1, c .before .before .before .before .before .before .before .before .before .loop .inv .2, c .before .before .before .before .before .before .before .before .loop-test)
+add-j c = omega (arith, c .before .before .before .before .before .before .before .before .before .before .loop .inv .1, c .before .before .before .before .before .before .before .before .before .before .loop .inv .2, c .before .before .before .before .before .before .before .before .before .loop-test)
 
 loop-less : tie.Need-loop-less Inv-loop μ-loop
-loop-less c = omega (arith, c .before .before .before .before .before .before .before .before .before .loop .inv .1, c .before .before .before .before .before .before .before .before .before .loop .inv .2, c .before .before .before .before .before .before .before .before .loop-test)
+loop-less c = omega (arith, c .before .before .before .before .before .before .before .before .before .before .loop .inv .1, c .before .before .before .before .before .before .before .before .before .before .loop .inv .2, c .before .before .before .before .before .before .before .before .before .loop-test)
 
 loop-again : tie.Need-loop-again Inv-loop μ-loop
 loop-again c =
-    let l = c .before .before .before .before .before .before .before .before .before .loop in
+    let l = c .before .before .before .before .before .before .before .before .before .before .loop in
     let v = l .inv in
-    let a = c .before .before .before .before .before .before .before .before .before .before .args in
+    let a = c .before .before .before .before .before .before .before .before .before .before .before .args in
     let k : Modes = record { g = now (a .g); «r_plus_g» = now (a .r-plus-g); h = now (a .h); gain = now (a .gain) } in
     let w : Bands = record { «state_1» = l .state-1; «state_2» = l .state-2; bands = l .bands } in (
-      place-turn k w (a .x) (l .j) (a .i + 4) (v .0) (omega (arith, c .before .before .before .before .before .before .before .before .loop-test)) (c .before .tick .ensures) (c .scale .ensures),
-      omega (arith, c .before .before .before .before .before .before .before .before .before .loop .inv .1, c .before .before .before .before .before .before .before .before .before .loop .inv .2, c .before .before .before .before .before .before .before .before .loop-test),
+      place-turn k w (a .x) (l .j) (a .end) (v .0) (omega (arith, c .before .before .before .before .before .before .before .before .before .loop-test)) (c .before .before .tick .ensures) refl,
+      omega (arith, c .before .before .before .before .before .before .before .before .before .before .loop .inv .1, c .before .before .before .before .before .before .before .before .before .before .loop .inv .2, c .before .before .before .before .before .before .before .before .before .loop-test),
       v .2,
     )
 
@@ -114,15 +104,14 @@ returns c =
     let a = c .before .before .args in
     let k : Modes = record { g = now (a .g); «r_plus_g» = now (a .r-plus-g); h = now (a .h); gain = now (a .gain) } in
     let w : Bands = record { «state_1» = l .state-1; «state_2» = l .state-2; bands = l .bands } in
-    places-end k w (a .x) (l .j) (a .i + 4) (l .inv .0) (omega (arith, c .loop-test))
+    places-end k w (a .x) (l .j) (a .end) (l .inv .0) (omega (arith, c .loop-test))
 
-pub tick-four-spec : {M : Type 1} → statement M
-tick-four-spec =
+pub tick-places-spec : {M : Type 1} → statement M
+tick-places-spec =
     tie.close
     (tie.spec
     Inv-loop
     μ-loop
-    add-end
     loop-holds
     mul-t16
     element-copy-out-t19
@@ -141,7 +130,6 @@ tick-four-spec =
     element-write-state-1
     mul-state-2
     element-write-state-2
-    scale-requires
     mul-bands-3
     element-write-bands
     add-j
