@@ -1,6 +1,4 @@
 -- `modal_voice::filter_frames` meets its contract: the filter and its mix, each by the law of loops over frames.
-use mathlib.Core.Path.{sym, ap, _∙_}
-use mathlib.Core.List.{List}
 use native.Mathlib.Omega.{arith}
 use Prim.Native.Nat.{_-_}
 use borrow.Author.Needs.{needs}

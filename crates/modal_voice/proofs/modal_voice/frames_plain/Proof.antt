@@ -1,6 +1,6 @@
 -- `modal_voice::frames_plain` meets its contract: its parts one after the other.
 use native.Mathlib.Omega.{arith}
-use Prim.Native.Nat.{_+_, _-_, _≤_, min}
+use Prim.Native.Nat.{_-_, _≤_}
 use borrow.Author.Needs.{needs}
 use denote.Ref.{now}
 use Rattle.modes.specs.declared.resonator.Modes.{Modes}
