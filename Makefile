@@ -3,8 +3,9 @@
 # make bench: the speed of the leaves, of both voices and of the exported calls beside the Rust's, as ratios.
 # make compare: two million blocks of random and extreme lists, in the exported bank and in the Rust.
 # make record: the oracle's answers for the program replay, written anew.
+# make mutants: two wrong programs for every function that has a contract, made by chance, each of which must be refused; some 40 minutes.
 
-.PHONY: render test bench compare record
+.PHONY: render test bench compare record mutants
 
 SHELL := bash
 .SHELLFLAGS := -o pipefail -c
@@ -33,3 +34,6 @@ compare: $(libraries)/libbank_abi.a
 
 record:
 	@host/cargo run --quiet --release -p record
+
+mutants:
+	@tests/mutants

@@ -1,6 +1,6 @@
 -- What the table's acceptance tells. Assumes nothing.
 use mathlib.Core.Path.{_≡_, refl, sym}
-use mathlib.Core.Bool.{Bool, true, false, not, _&&_, _||_}
+use mathlib.Core.Bool.{Bool, true, false, true≢false, not, _&&_, _||_}
 use mathlib.Core.List.{List, [], _∷_}
 use Prim.Native.Nat.{ℕ, zero, suc, _<_, _≤_}
 use native.Mathlib.Omega.{arith}
@@ -8,6 +8,7 @@ use lib.Dec.{eqb, leb, ltb}
 use lib.ListN.{length, getD}
 use lib.Ieee.{Float}
 use borrow.Author.Tests.{eqb-true, eqb-false, ltb-false, leb-false, not-false}
+use Rattle.ground.proofs.Bools.{or-false, and-true}
 use Rattle.noise.specs.declared.excitation.Knobs.{Knobs}
 use Rattle.noise.specs.Excitation.{Alike}
 use Rattle.slots.specs.declared.answers.Reason.{Reason}
@@ -19,17 +20,6 @@ use Rattle.slots.specs.Slots.{noString, emptySlot, slotAt}
 use Rattle.slots.specs.Calls.{Bufs, Act, opening, render}
 use Rattle.slots.specs.Table.{Check, _⇐_, first, alike, checks, knobChecks, verdict, badSlot, badSlots, bad}
 use Rattle.bank.specs.World.{Ready}
-
-true-false : true ≡ false → ⊥
-true-false e = let z : _≡_ {A = ℕ} 0 1 = cc in omega arith
-
-pub or-false : (a b : Bool) → a || b ≡ false → (a ≡ false) × (b ≡ false)
-or-false true b e = absurd (true-false e)
-or-false false b e = (refl, e)
-
-pub and-true : (a b : Bool) → a && b ≡ true → (a ≡ true) × (b ≡ true)
-and-true true b e = (refl, e)
-and-true false b e = absurd (true-false (sym e))
 
 -- a check of a call that is accepted does not apply
 pub spared : (r : Reason) (b : Bool) (cs : List Check) → first (r ⇐ b ∷ cs) ≡ Accepted → (b ≡ false) × (first cs ≡ Accepted)
@@ -102,7 +92,7 @@ begun bad slot kind act e =
 -- a kind that may be opened is not 0
 pub asked : (kind k : ℕ) (rate : Float) → first (checks kind (opening k rate)) ≡ Accepted → 0 < k
 unfolding checks
-asked kind zero rate e = absurd (true-false (spared R.Kind true _ e .0))
+asked kind zero rate e = absurd (true≢false (spared R.Kind true _ e .0))
 asked kind (suc k) rate e = omega arith
 
 -- what the checks of a render leave: its slot is not empty, and its buffers have one length, of at most 4,096

@@ -14,7 +14,7 @@ use Rattle.ground.specs.Part.{part}
 use Rattle.ground.proofs.Tab.{tab-getD}
 use Rattle.ground.proofs.Part.{part-put-below, part-put-above}
 use Rattle.slots.specs.declared.slots.Slot.{Slot}
-use Rattle.claims.specs.Claim.{Each}
+use Rattle.ground.specs.Each.{Each}
 use Rattle.slot_bytes.specs.Words.{words, bytes, each}
 use Rattle.slot_bytes.specs.Layout.{SlotF32, bits, svfIn, dcIn, stringIn, voiceIn, modeIn, batchIn, modalIn, slotIn, decodeSlot, svfWords, dcWords, stringWords, voiceWords, modeWords, batchWords, floatWords, modalWords, slotWords, flagOf, encodeSlot, parts, decodeBank, encodeBank, withBytes}
 use Rattle.bank_abi.specs.Claims.{Numbers, DecodeEncodeBank, isNumber, kept, EncodeDecode, Words, Untouched}

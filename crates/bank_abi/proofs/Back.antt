@@ -18,7 +18,8 @@ use Rattle.waveguide.specs.declared.string.String.{String}
 use Rattle.modes.specs.declared.resonator.ResonatorSvf.{ResonatorSvf}
 use Rattle.modes.specs.declared.resonator.Batch.{Batch}
 use Rattle.slots.specs.declared.slots.Slot.{Slot}
-use Rattle.claims.specs.Claim.{Each}
+use Rattle.ground.specs.Each.{Each}
+use Rattle.ground.proofs.Each as every
 use Rattle.slot_bytes.specs.Words.{wordOf, words, bytes, each}
 use Rattle.slot_bytes.specs.Layout.{F32, SvfF32, DcF32, StringF32, ModeF32, BatchF32, SlotF32, floatIn, svfIn, dcIn, stringIn, voiceIn, modeIn, batchIn, modalIn, slotIn, decodeSlot, bits, svfWords, dcWords, stringWords, voiceWords, modeWords, batchWords, floatWords, modalWords, slotWords, flagOf, encodeSlot}
 use Rattle.bank_abi.specs.Claims.{Numbers, DecodeEncode}
@@ -131,11 +132,6 @@ unfolding tab
 tab-same zero f g h = refl
 tab-same (suc n) f g h = λ i. h 0 (omega arith) i ∷ tab-same n (λ j. f (suc j)) (λ j. g (suc j)) (λ j l. h (suc j) (omega arith)) i
 
-each-is : {A : Type 0} (P : A → Type 0) (xs : List A) (i : ℕ) (d : A) → Each P xs → i < length xs → P (getD xs i d)
-each-is P [] i d e h = absurd (omega arith)
-each-is P (x ∷ xs) zero d e h = e .0
-each-is P (x ∷ xs) (suc i) d e h = each-is P xs i d (e .1) (omega arith)
-
 flag-back : (b : Bool) → eqb (flagOf b) 1 ≡ b
 flag-back true = refl
 flag-back false = refl
@@ -180,7 +176,7 @@ module _ (s : Slot) (f : SlotF32 s) where
   amplitude i h =
       let n = f .1 .1 .many in
       ap (λ (w : ℕ). ofBits binary32 w) (word-26 i ∙ each-at floatWords 1 one amps (each batchWords filters) i 0 i nan (omega arith) (omega arith) (omega arith))
-      ∙ back (getD amps i nan) (each-is F32 amps i nan (f .1 .1 .all) (omega arith))
+      ∙ back (getD amps i nan) (every.each-at F32 amps i nan (omega arith) (f .1 .1 .all))
 
   -- the word j of the batch i
   module _ (i : ℕ) (h : i < 6) where
@@ -202,7 +198,7 @@ module _ (s : Slot) (f : SlotF32 s) where
         ∙ each-at batchWords 8 eight filters [] i j (8 * i + j) noBatch refl (omega arith) g)
 
     batch-fits : BatchF32 batch
-    batch-fits = let m = f .1 .2 .many in each-is BatchF32 filters i noBatch (f .1 .2 .all) (omega arith)
+    batch-fits = let m = f .1 .2 .many in every.each-at BatchF32 filters i noBatch (omega arith) (f .1 .2 .all)
 
     batch-back : batchIn ws (50 + 8 * i) ≡ batch
     unfolding batchIn modeIn batchWords modeWords BatchF32

@@ -17,7 +17,8 @@ use Rattle.slots.specs.Slots.{slotAt, withSlot}
 use Rattle.slots.specs.Calls.{Act, lent, Voice, actDef}
 use Rattle.slots.specs.Table.{Call, first, checks, verdict, bad}
 use Rattle.bank.specs.World.{Moved, movedBy, callBy, callDef, linesAt}
-use Rattle.bank.proofs.Accepted.{or-false, Sound, whole, begun}
+use Rattle.bank.proofs.Accepted.{Sound, whole, begun}
+use Rattle.ground.proofs.Bools.{or-false}
 use Rattle.ground.proofs.Part.{length-part}
 use Rattle.ground.proofs.Draw.{always-run, draws-always}
 use Rattle.claims.specs.Claim.{InF32}

@@ -10,7 +10,7 @@ use Rattle.ground.specs.Frames.{tab}
 use Rattle.ground.specs.Part.{part}
 use Rattle.slots.specs.declared.slots.Slot.{Slot}
 use Rattle.slots.specs.declared.slots.Bank.{Bank}
-use Rattle.claims.specs.Claim.{Each}
+use Rattle.ground.specs.Each.{Each}
 use Rattle.slot_bytes.specs.Words.{words, bytes}
 use Rattle.slot_bytes.specs.Layout.{SlotF32, decodeSlot, encodeSlot, decodeBank, encodeBank, withBytes}
 

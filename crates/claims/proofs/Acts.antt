@@ -11,6 +11,7 @@ use denote.Floats.{passes, is-true}
 use borrow.Author.Tests.{not-false}
 use Rattle.ground.specs.F32.{c0, c0·5, c1}
 use Rattle.ground.specs.Draw.{Draw}
+use Rattle.ground.specs.Each.{Each}
 use Rattle.ground.proofs.Draw.{Draws, draws-then}
 use Rattle.bounds.proofs.Order.{and-true}
 use Rattle.noise.specs.declared.excitation.Knobs.{Knobs}
@@ -28,7 +29,7 @@ use Rattle.slots.specs.Slots.{noString}
 use Rattle.slots.specs.Calls.{Bufs, Act, opening, reset, render, Voice, Done, openDef, resetDef, stringDef, modalDef, renderDef, actDef}
 use Rattle.slots.specs.Table.{Check, first, within, lowest, alike, checks}
 use Rattle.claims.specs.Ledger.{Led, Entry, stringEntry, modalEntry, renderEntry, entry}
-use Rattle.claims.specs.Claim.{total, Each, InF32}
+use Rattle.claims.specs.Claim.{total, InF32}
 use Rattle.claims.proofs.Agreement.{left-is, phase-is, dispersion-is}
 
 -- ---- a slot as the ledger has it, and what number 1 asks of it

@@ -5,7 +5,6 @@ use mathlib.Core.Bool.{Bool, true, false, cond, true≢false}
 use mathlib.Core.List.{List, [], _∷_, map}
 use mathlib.Core.Option.{none, some}
 use Prim.Native.Nat.{ℕ, zero, suc, _+_, _*_, _≤_, _<_, suc-le-suc}
-use native.Mathlib.Nat.{not-suc-le-zero, le-of-suc-le-suc}
 use native.Mathlib.Decide.{decLt}
 use native.Mathlib.Omega.{arith}
 use lib.ListN.{length, getD, set, length-set, List·getD-map}
@@ -14,6 +13,8 @@ use lib.Dec.{ltb, eqb}
 use borrow.Author.Tests.{le-ltb, lt-leb, eqb-true, eq-eqb, ltb-false}
 use lib.Ieee.{Float}
 use Rattle.ground.specs.Draw.{Draw, value, ending, words, moved, stream}
+use Rattle.ground.specs.Each.{Each}
+use Rattle.ground.proofs.Each.{each-at, each-set}
 use Rattle.ground.proofs.Draw.{fed-words, words-are, ending-is, always-run, draws-length, draws-always}
 use Rattle.ground.proofs.Part.{length-part, length-put, part-put, part-put-below, part-put-above}
 use Rattle.slots.specs.declared.slots.Slot.{Slot}
@@ -28,20 +29,8 @@ use Rattle.slots.specs.Calls.{Done, actDef}
 use Rattle.slots.specs.Table.{Call, first, checks, verdict, badSlot, badSlots, bad}
 use Rattle.bank.specs.World.{World, linesAt, withLines, voiceAt, Event, callBy, callDef}
 use Rattle.claims.specs.Ledger.{Led, freshLed, Entry, entry, Line, lineBy, lineOf}
-use Rattle.claims.specs.Claim.{nothing, given, feed, of-done, hear, seen, total, Each, InF32}
+use Rattle.claims.specs.Claim.{nothing, given, feed, of-done, hear, seen, total, InF32}
 use Rattle.claims.proofs.Acts.{led-of, Ok, Follows, ByLedger, passed, act-law}
-
--- ---- a property of every element of a list
-
-each-at : {A : Type 0} (P : A → Type 0) (l : List A) (i : ℕ) (d : A) → i < length l → Each P l → P (getD l i d)
-each-at P [] i d h p = absurd (not-suc-le-zero h)
-each-at P (x ∷ xs) zero d h p = p .0
-each-at P (x ∷ xs) (suc i) d h p = each-at P xs i d (le-of-suc-le-suc h) (p .1)
-
-each-set : {A : Type 0} (P : A → Type 0) (l : List A) (i : ℕ) (y : A) → P y → Each P l → Each P (set l i y)
-each-set P [] i y q p = tt
-each-set P (x ∷ xs) zero y q p = (q, p .1)
-each-set P (x ∷ xs) (suc i) y q p = (p .0, each-set P xs i y q (p .1))
 
 map-set : {A B : Type 0} (f : A → B) (l : List A) (i : ℕ) (y : A) → map f (set l i y) ≡ set (map f l) i (f y)
 map-set f [] i y = refl

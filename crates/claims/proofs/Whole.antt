@@ -11,6 +11,7 @@ use lib.Dec.{lit<, lit≤}
 use borrow.Author.Tests.{ne-eqb}
 use lib.Ieee.{Float}
 use Rattle.ground.specs.Draw.{moved, stream}
+use Rattle.ground.specs.Each.{Each}
 use Rattle.ground.proofs.Draw.{moved-add, stream-add, length-stream, stream-at}
 use Rattle.slots.specs.declared.answers.Reason.the-variants.{Memory}
 use Rattle.slots.specs.declared.answers.Verdict.{Verdict}
@@ -23,7 +24,7 @@ use Rattle.slots.specs.Calls.{Voice}
 use Rattle.slots.specs.Table.{Call, first, verdict, bad}
 use Rattle.bank.specs.World.{World, start, linesAt, voiceAt, Event, callBy, callDef, runFrom, endFrom}
 use Rattle.claims.specs.Ledger.{Led, freshLed, Line, lineBy, lineOf, ledgerFrom, ledger}
-use Rattle.claims.specs.Claim.{Feed, feed, feeds, Heard, hear, note, go-on, alone, seen, sumOf, total, drawn, dealt, Each, Kept, Account, InF32, Demand3}
+use Rattle.claims.specs.Claim.{Feed, feed, feeds, Heard, hear, note, go-on, alone, seen, sumOf, total, drawn, dealt, Kept, Account, InF32, Demand3}
 use Rattle.claims.proofs.Acts.{Ok}
 use Rattle.claims.proofs.OneCall.{Inv, leds, Step, step}
 

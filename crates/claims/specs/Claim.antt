@@ -9,6 +9,7 @@ use lib.Dec.{T, eqb}
 use lib.ListN.{length, getD}
 use lib.Ieee.{Float, binary32, fits}
 use Rattle.ground.specs.Draw.{moved, fed}
+use Rattle.ground.specs.Each.{Each}
 use Rattle.noise.specs.declared.excitation.Counts.{Counts}
 use Rattle.slots.specs.declared.answers.Answer.{Answer}
 use Rattle.slots.specs.declared.answers.Answer.the-variants.{Drawn, Refusal}
@@ -93,10 +94,6 @@ drawn es = sumOf (λ e. total (countsOf (e .answer))) es
 -- the words dealt, in the order of the draws
 abbrev pub dealt : List Event → List ℕ
 dealt es = joined (map (λ e. e .dealt) es)
-
-abbrev pub Each : {A : Type 0} → (A → Type 0) → List A → Type 0
-Each P [] = Unit {0}
-Each P (x ∷ xs) = P x × Each P xs
 
 -- nothing changed at this call
 pub record Kept (e : Event) : Type 0 where

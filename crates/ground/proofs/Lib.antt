@@ -6,6 +6,8 @@ pub mod Tab
 pub mod Exchange
 pub mod Halves
 pub mod Part
+pub mod Each
+pub mod Bools
 pub mod Words
 pub mod Rounding
 pub mod Signs

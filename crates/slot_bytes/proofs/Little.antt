@@ -13,7 +13,7 @@ use Rattle.string_voice.specs.declared.string_voice.StringVoice.{StringVoice}
 use Rattle.modal_voice.specs.declared.modal_voice.ModalVoice.{ModalVoice}
 use Rattle.slots.specs.declared.slots.Slot.{Slot}
 use Rattle.slot_bytes.specs.Layout.{ModalF32, flagOf, encodeSlot, floatWords, svfWords, dcWords, stringWords, voiceWords, modeWords, batchWords, modalWords, slotWords}
-use Rattle.claims.specs.Claim.{Each}
+use Rattle.ground.specs.Each.{Each}
 use Rattle.slot_bytes.specs.Words.{wordOf, words, bytes, putWords, each}
 
 -- ---- the k-th word

@@ -18,8 +18,8 @@ use Rattle.ground.proofs.Nans.{is-nan}
 use Rattle.ground.proofs.Tab.{length-tab}
 use Rattle.slot_bytes.specs.Words.{wordOf, words, bytes, putWords, each}
 use Rattle.slots.specs.declared.slots.Slot.{Slot}
-use Rattle.bank.proofs.Accepted as accepted
-use Rattle.claims.specs.Claim.{Each}
+use Rattle.ground.proofs.Bools as bools
+use Rattle.ground.specs.Each.{Each}
 use Rattle.slot_bytes.specs.Layout.{F32, BatchF32, ModalF32, All, bits, floatIn, floatsIn, noNan, modeIn, batchIn, modalIn, slotIn, decodeSlot, floatWords, modeWords, batchWords, voiceWords, modalWords, slotWords, flagOf, encodeSlot}
 use Rattle.slot_bytes.proofs.Little.{stored, bytes-append, length-bytes, whole-wrote, length-voice, length-modal, Written, written-begin, written-turn, written-end}
 
@@ -133,7 +133,7 @@ module _ {bs : List ℕ} {k n : ℕ} where
             ∙ ap (λ (y : Float). noNan (take i xs ++ (y ∷ []))) (sym x)
             ∙ ap noNan (sym (ap (λ (j : ℕ). take j xs) (add-one i) ∙ take-suc xs i nan (omega arith)));
         written = λ t.
-            let u = accepted.and-true stand r t in
+            let u = bools.and-true stand r t in
             written-turn k 1 one (k + i) nan (s .written (u .0)) (omega arith) (sym (ap (λ (y : Float). putWords (k + i) (floatWords y) bs) x ∙ f (u .1))) (omega arith) (omega arith);
       }
 

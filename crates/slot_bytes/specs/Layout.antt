@@ -17,7 +17,7 @@ use Rattle.modes.specs.declared.resonator.Batch.{Batch}
 use Rattle.modal_voice.specs.declared.modal_voice.ModalVoice.{ModalVoice}
 use Rattle.slots.specs.declared.slots.Slot.{Slot}
 use Rattle.slots.specs.declared.slots.Bank.{Bank}
-use Rattle.claims.specs.Claim.{Each}
+use Rattle.ground.specs.Each.{Each}
 use Rattle.slot_bytes.specs.Words.{words, bytes, each}
 
 -- ---- read: a thing whose words stand from the k-th on

@@ -5,7 +5,7 @@ use lib.Ieee.{Float, nan}
 use lib.Ieee.{Float, nan}
 use Rattle.slot_bytes.specs.Layout.{F32, floatWords}
 use lib.ListN.{take}
-use Rattle.claims.specs.Claim.{Each}
+use Rattle.ground.specs.Each.{Each}
 use Rattle.slot_bytes.proofs.Little.{Written, written-begin, written-turn, written-end, each-more, each-all}
 use lib.ListN.{length}
 use lib.Ieee.{Float, nan}

@@ -1,7 +1,7 @@
 -- `encode::put_filters` meets its contract.
 use Rattle.slot_bytes.specs.Layout.{BatchF32, batchWords, modeWords}
 use lib.ListN.{take}
-use Rattle.claims.specs.Claim.{Each}
+use Rattle.ground.specs.Each.{Each}
 use Rattle.slot_bytes.proofs.Little.{Written, written-begin, written-turn, written-end, each-more, each-all}
 use lib.ListN.{length}
 use Rattle.modes.specs.declared.resonator.Batch.{Batch}

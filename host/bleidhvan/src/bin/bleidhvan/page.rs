@@ -37,7 +37,7 @@ fn sum(rendered: usize, refused: usize) -> String {
 
 /// Writes the page's beginning.
 pub fn begin(page: &mut impl Write) -> io::Result<()> {
-    write!(page, "{HEAD}{}<table>\n", sum(0, 0))?;
+    writeln!(page, "{HEAD}{}<table>", sum(0, 0))?;
     writeln!(page, "<thead><tr><th>Name<th>Sound<th>Waveform<th>Knobs</thead>\n<tbody>")
 }
 
