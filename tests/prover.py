@@ -72,11 +72,18 @@ class Room:
         return self.first(set(re.findall(rf"^fn {self.name}::(\S+): (?:not proved$|no proof:)", log, re.M)))
 
     def first(self, functions):
-        """Of some functions those that call none of the others: a function without a proof of its own is said to have none where one that it calls has none."""
+        """Of some functions those that reach none of the others by calls: a function without a proof of its own is said to have none where a callee has none."""
         text = "\n".join(file.read_text() for file in (self.room / "crates" / self.name / "src").rglob("*.rt"))
+        parts = re.findall(r"\bfn (\w+)(.*?)(?=\n *(?:pub )?(?:extern \"C\" )?fn |\Z)", text, re.S)
+        calls = {name: set(re.findall(r"\b(\w+)\(", body)) for name, body in parts}
+
+        def reached(names, seen):
+            for name in names & calls.keys() - seen:
+                seen |= reached(calls[name], seen | {name})
+            return seen
+
         last = {function: function.split("::")[-1] for function in functions}
-        bodies = {m[1]: m[2] for m in re.finditer(r"\bfn (\w+)(.*?)(?=\n *(?:pub )?(?:extern \"C\" )?fn |\Z)", text, re.S)}
-        return {f for f in functions if not any(g != f and re.search(rf"\b{last[g]}\(", bodies[last[f]]) for g in functions)}
+        return {f for f in functions if not reached(calls[last[f]], set()) & set(last.values()) - {last[f]}}
 
 
 def each_crate(names, work):
