@@ -69,13 +69,14 @@ class Room:
             return None
         if "logic=not-proved" not in log:
             raise Bad("it did not reach the prover:\n" + log[-2000:])
-        return self.first(set(re.findall(rf"^fn {self.name}::(\S+): (?:not proved$|no proof:)", log, re.M)))
+        return self.first(set(re.findall(rf"^fn {self.name}::(\S+): (?:not proved(?!; it calls )|no proof:)", log, re.M)))
 
     def first(self, functions):
         """Of some functions those that reach none of the others by calls: a function without a proof of its own is said to have none where a callee has none."""
         text = "\n".join(file.read_text() for file in (self.room / "crates" / self.name / "src").rglob("*.rt"))
-        parts = re.findall(r"\bfn (\w+)(.*?)(?=\n *(?:pub )?(?:extern \"C\" )?fn |\Z)", text, re.S)
-        calls = {name: set(re.findall(r"\b(\w+)\(", body)) for name, body in parts}
+        calls = {}
+        for name, body in re.findall(r"\bfn (\w+)(.*?)(?=\n *(?:pub )?(?:extern \"C\" )?fn |\Z)", text, re.S):
+            calls.setdefault(name, set()).update(re.findall(r"\b(\w+)\(", body))
 
         def reached(names, seen):
             for name in names & calls.keys() - seen:
