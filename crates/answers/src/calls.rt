@@ -143,7 +143,7 @@ pub fn with_no_block(row: [u32; 64]) -> [u32; 64] {
 }
 
 // What was read and compared so far.
-#[derive(Drop)]
+#[derive(Clone, Copy)]
 pub struct Progress {
     // Whole calls.
     pub calls: u32,
@@ -172,7 +172,7 @@ pub fn begin(checksum: u32) -> Progress {
 }
 
 // A call as it was read: whole where the read gave 256 bytes.
-#[derive(Drop)]
+#[derive(Clone, Copy)]
 pub struct Call {
     pub row: [u32; 64],
     pub read: usize,
@@ -207,7 +207,7 @@ fn compared(name: &[u8], number: u32, row: [u32; 64], other: [u32; 64], before: 
 }
 
 // What a call adds to the sums.
-#[derive(Drop)]
+#[derive(Clone, Copy)]
 pub struct Adds {
     pub sequences: u32,
     pub blocks: u32,

@@ -32,7 +32,7 @@ fn shaped(shape: u32, s: u32) -> u32 {
 }
 
 // The inputs of a case, and the word after it.
-#[derive(Drop)]
+#[derive(Clone, Copy)]
 pub struct Case {
     pub inputs: [u32; 8],
     pub word: u32,

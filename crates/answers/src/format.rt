@@ -26,7 +26,7 @@ pub fn text_length(header: &[u8]) -> usize
 }
 
 // What a read gave, and the digest of all bytes up to its end.
-#[derive(Drop)]
+#[derive(Clone, Copy)]
 pub struct Read {
     pub read: usize,
     pub checksum: u32,

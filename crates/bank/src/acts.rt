@@ -11,7 +11,7 @@ use slots::slots::Slot;
 use string_voice::string_voice::{Rendered, StringVoice};
 
 // A slot after a render, the generator's word, and the words drawn.
-#[derive(Drop)]
+#[derive(Clone, Copy)]
 pub struct Acted {
     pub slot: Slot,
     pub word: u32,

@@ -10,14 +10,14 @@ use slots::answers::{Answer, Verdict};
 use slots::slots::Bank;
 
 // The bank after an opening or a reset, and the answer.
-#[derive(Drop)]
+#[derive(Clone, Copy)]
 pub struct Opened {
     pub bank: Bank,
     pub answer: Answer,
 }
 
 // The generator's word and the bank after a render, and the answer.
-#[derive(Drop)]
+#[derive(Clone, Copy)]
 pub struct Rendered {
     pub word: u32,
     pub bank: Bank,

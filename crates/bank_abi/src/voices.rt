@@ -10,7 +10,7 @@ ghost use Rattle.bank_abi.specs.Crossing.{Wrote};
 use noise::excitation::{Counts, Knobs};
 
 // The generator's word after a render, and the words drawn.
-#[derive(Drop)]
+#[derive(Clone, Copy)]
 pub struct Drawn {
     pub word: u32,
     pub counts: Counts,

@@ -9,7 +9,7 @@ use slots::answers::Answer;
 use slots::slots::Bank;
 
 // The bank and the generator's word after a call, and the call's row.
-#[derive(Drop)]
+#[derive(Clone, Copy)]
 pub struct Made {
     pub bank: Bank,
     pub word: u32,

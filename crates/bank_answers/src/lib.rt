@@ -7,7 +7,7 @@ use answers::print;
 use slots::slots::Bank;
 
 // What was compared so far, the bank and the generator's word as the last call left them, and how many calls got each of 01's numbers.
-#[derive(Drop)]
+#[derive(Clone, Copy)]
 struct Replayed {
     bank: Bank,
     word: u32,

@@ -5,7 +5,7 @@ ghost use Rattle.ground.specs.F32.{c1, two_to23};
 ghost use Rattle.ground.specs.Floats.{whole_part, fraction_of, split_of, min_f, clamp_f, abs_f};
 
 // A whole part, and what is left.
-#[derive(Drop)]
+#[derive(Clone, Copy)]
 pub struct Parts {
     pub integral: usize,
     pub fractional: f32,

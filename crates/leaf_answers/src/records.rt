@@ -4,7 +4,7 @@ use crate::{functions, tally};
 use answers::{format, print};
 
 // What was read and compared so far.
-#[derive(Drop)]
+#[derive(Clone, Copy)]
 pub struct Progress {
     pub counts: [Count; 23],
     // Whole records.

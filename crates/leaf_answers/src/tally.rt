@@ -4,7 +4,7 @@ ghost use Rattle.std.specs.Prelude.{◌<◌};
 use answers::words;
 
 // Raw records, digest records, the cases that these stand for, and how many of the records differ.
-#[derive(Drop)]
+#[derive(Clone, Copy)]
 pub struct Count {
     pub raw: u32,
     pub digests: u32,

@@ -9,7 +9,7 @@ use modal_voice::modal_voice::ModalVoice;
 use modes::resonator::{Batch, ResonatorSvf};
 
 // A voice after a call, and the call's row.
-#[derive(Drop)]
+#[derive(Clone, Copy)]
 pub struct Made {
     pub voice: ModalVoice,
     pub row: [u32; 64],
@@ -44,7 +44,7 @@ fn with_batch(row: [u32; 64], at: usize, batch: Batch) -> [u32; 64]
 }
 
 // Digests of the first and of the second states of modes.
-#[derive(Drop)]
+#[derive(Clone, Copy)]
 struct Digests {
     state_1: u32,
     state_2: u32,

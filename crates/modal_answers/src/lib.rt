@@ -5,7 +5,7 @@ use answers::calls::Progress;
 use modal_voice::modal_voice::ModalVoice;
 
 // What was compared so far, and the voice as the last call left it.
-#[derive(Drop)]
+#[derive(Clone, Copy)]
 struct Replayed {
     voice: ModalVoice,
     progress: Progress,

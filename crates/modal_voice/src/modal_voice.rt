@@ -12,7 +12,7 @@ use modes::resonator::{Batch, Mode, Modes, Quiet, Resonator, ResonatorSvf};
 use noise::excitation::{Counts, Knobs};
 
 // A voice. A strike on an empty block is held for the next block that has frames.
-#[derive(Drop)]
+#[derive(Clone, Copy)]
 pub struct ModalVoice {
     pub excitation_filter: ResonatorSvf,
     pub resonator: Resonator,
@@ -20,7 +20,7 @@ pub struct ModalVoice {
 }
 
 // A voice after a render or its first half, the generator's word, and the words drawn.
-#[derive(Drop)]
+#[derive(Clone, Copy)]
 pub struct Rendered {
     pub voice: ModalVoice,
     pub word: u32,
@@ -130,7 +130,7 @@ fn counts_of(sustain: bool, n: usize) -> Counts
 }
 
 // What the excitation filter keeps after a frame, what it gave there, and whether its memory stands.
-#[derive(Drop)]
+#[derive(Clone, Copy)]
 pub struct Ahead {
     pub state_1: f32,
     pub state_2: f32,
@@ -139,7 +139,7 @@ pub struct Ahead {
 }
 
 // Both filters after a block.
-#[derive(Drop)]
+#[derive(Clone, Copy)]
 pub struct Filtered {
     pub filter: ResonatorSvf,
     pub mode_filters: [Batch; 6],

@@ -10,14 +10,14 @@ use crate::subnormal::product;
 use utils::filter::FrequencyApproximation;
 
 // What a mode keeps: ResonatorSvf<1>, and a mode of ResonatorSvf<4>.
-#[derive(Drop)]
+#[derive(Clone, Copy)]
 pub struct ResonatorSvf {
     pub state_1: f32,
     pub state_2: f32,
 }
 
 // ResonatorSvf<4>
-#[derive(Drop)]
+#[derive(Clone, Copy)]
 pub struct Batch {
     pub mode_0: ResonatorSvf,
     pub mode_1: ResonatorSvf,
@@ -25,14 +25,14 @@ pub struct Batch {
     pub mode_3: ResonatorSvf,
 }
 
-#[derive(Drop)]
+#[derive(Clone, Copy)]
 pub struct Resonator {
     pub mode_amplitude: [f32; 24],
     pub mode_filters: [Batch; 6],
 }
 
 // The coefficients of a mode.
-#[derive(Drop)]
+#[derive(Clone, Copy)]
 pub struct Mode {
     pub g: f32,
     pub r_plus_g: f32,
@@ -41,7 +41,7 @@ pub struct Mode {
 }
 
 // A mode after a sample, and its band pass and low pass there.
-#[derive(Drop)]
+#[derive(Clone, Copy)]
 pub struct Ticked {
     pub svf: ResonatorSvf,
     pub bp: f32,
@@ -49,7 +49,7 @@ pub struct Ticked {
 }
 
 // Where the loop over the modes stands.
-#[derive(Drop)]
+#[derive(Clone, Copy)]
 pub struct Partial {
     pub harmonic: f32,
     pub stretch_factor: f32,
@@ -58,7 +58,7 @@ pub struct Partial {
 }
 
 // mode_f, mode_q and mode_a of all modes.
-#[derive(Drop)]
+#[derive(Clone, Copy)]
 pub struct Tuned {
     pub f: [f32; 24],
     pub q: [f32; 24],
@@ -66,7 +66,7 @@ pub struct Tuned {
 }
 
 // The coefficients of all modes, each at its place: those of the batches 0 to 3 side by side, so that a frame adds four batches at once, and those of 4 and 5 behind them in order.
-#[derive(Drop)]
+#[derive(Clone, Copy)]
 pub struct Modes {
     pub g: [f32; 24],
     pub r_plus_g: [f32; 24],
@@ -75,14 +75,14 @@ pub struct Modes {
 }
 
 // What all modes keep, at the same places.
-#[derive(Drop)]
+#[derive(Clone, Copy)]
 pub struct States {
     pub state_1: [f32; 24],
     pub state_2: [f32; 24],
 }
 
 // Whether small modes are among the first 16 places, and among the last 8.
-#[derive(Drop)]
+#[derive(Clone, Copy)]
 pub struct Quiet {
     pub low: bool,
     pub high: bool,

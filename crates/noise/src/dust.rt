@@ -4,7 +4,7 @@ ghost use Rattle.ground.specs.Draw.{run, Ran};
 ghost use Rattle.noise.specs.Dust.{dust_of};
 
 // A sample, and the generator's word after it.
-#[derive(Drop)]
+#[derive(Clone, Copy)]
 pub struct Drawn {
     pub value: f32,
     pub word: u32,

@@ -4,7 +4,7 @@ ghost use Rattle.ground.specs.Draw.{run, Ran};
 ghost use Rattle.noise.specs.Excitation.{raised, dust_frequency, dusted, added};
 
 // What a render is given beside its buffers.
-#[derive(Drop)]
+#[derive(Clone, Copy)]
 pub struct Knobs {
     pub sustain: bool,
     pub trigger: bool,
@@ -16,7 +16,7 @@ pub struct Knobs {
 }
 
 // How many words a call drew, by what.
-#[derive(Drop)]
+#[derive(Clone, Copy)]
 pub struct Counts {
     pub burst: usize,
     pub dust: usize,

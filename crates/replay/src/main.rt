@@ -45,7 +45,7 @@ fn banks() {
 }
 
 // A file after its header: whether that is whole, the number of records that it states, and its digest.
-#[derive(Drop)]
+#[derive(Clone, Copy)]
 struct File {
     fd: i32,
     whole: bool,

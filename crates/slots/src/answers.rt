@@ -4,7 +4,7 @@ ghost use Rattle.slots.specs.Answers.{knob_number, reason_number, number_of, cou
 
 use noise::excitation::Counts;
 
-#[derive(Drop)]
+#[derive(Clone, Copy)]
 pub enum Knob {
     F0,
     Accent,
@@ -13,7 +13,7 @@ pub enum Knob {
     Damping,
 }
 
-#[derive(Drop)]
+#[derive(Clone, Copy)]
 pub enum Reason {
     Memory,
     NoSlot,
@@ -27,13 +27,13 @@ pub enum Reason {
 }
 
 // What the table says of a call.
-#[derive(Drop)]
+#[derive(Clone, Copy)]
 pub enum Verdict {
     Accepted,
     Refused(Reason),
 }
 
-#[derive(Drop)]
+#[derive(Clone, Copy)]
 pub enum Answer {
     Drawn(Counts),
     Refusal(Reason),

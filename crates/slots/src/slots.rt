@@ -9,14 +9,14 @@ use utils::filter::{DcBlocker, Svf};
 use waveguide::string::String;
 
 // A slot: kind 0 is empty, 1 a string, 2 a modal voice.
-#[derive(Drop)]
+#[derive(Clone, Copy)]
 pub struct Slot {
     pub kind: u32,
     pub string: StringVoice,
     pub modal: ModalVoice,
 }
 
-#[derive(Drop)]
+#[derive(Clone, Copy)]
 pub struct Bank {
     pub slots: [Slot; 8],
 }

@@ -10,7 +10,7 @@ use string_voice::string_voice::StringVoice;
 use utils::filter::Svf;
 
 // A voice after a call, and the call's row.
-#[derive(Drop)]
+#[derive(Clone, Copy)]
 pub struct Made {
     pub voice: StringVoice,
     pub row: [u32; 64],

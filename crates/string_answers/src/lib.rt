@@ -7,7 +7,7 @@ use answers::calls::Progress;
 use string_voice::string_voice::StringVoice;
 
 // What was compared so far, and the voice as the last call left it.
-#[derive(Drop)]
+#[derive(Clone, Copy)]
 struct Replayed {
     voice: StringVoice,
     progress: Progress,

@@ -14,7 +14,7 @@ use utils::filter::{FrequencyApproximation, Passed, Svf};
 use waveguide::string::{Live, Params, String, StringNonLinearity};
 
 // A voice. Its lines are lent: the string line of 1,024 numbers and the stretch line of 256 behind it.
-#[derive(Drop)]
+#[derive(Clone, Copy)]
 pub struct StringVoice {
     pub excitation_filter: Svf,
     pub string: String,
@@ -22,7 +22,7 @@ pub struct StringVoice {
 }
 
 // A voice after a render or a half of one, the generator's word, and the words drawn.
-#[derive(Drop)]
+#[derive(Clone, Copy)]
 pub struct Rendered {
     pub voice: StringVoice,
     pub word: u32,
@@ -30,7 +30,7 @@ pub struct Rendered {
 }
 
 // The excitation filter and the string after a block, the generator's word, and how many words the string drew.
-#[derive(Drop)]
+#[derive(Clone, Copy)]
 pub struct Strung {
     pub filter: Svf,
     pub string: String,

@@ -2,7 +2,7 @@
 ghost use Rattle.std.specs.Prelude.{◌≡◌};
 ghost use Rattle.utils.specs.CosineOscillator.{with_coefficient, approximate, started, osc_init, osc_next, amplitudes_of};
 
-#[derive(Drop)]
+#[derive(Clone, Copy)]
 pub struct CosineOscillator {
     pub y1: f32,
     pub y0: f32,
@@ -11,7 +11,7 @@ pub struct CosineOscillator {
 }
 
 // The oscillator after a step, and what the step gives.
-#[derive(Drop)]
+#[derive(Clone, Copy)]
 pub struct CosineOut {
     pub oscillator: CosineOscillator,
     pub out: f32,

@@ -3,7 +3,7 @@ ghost use Rattle.std.specs.Prelude.{◌≡◌, ◌<◌, ◌%◌, length};
 ghost use Rattle.utils.specs.DelayLine.{cleared, tap, written, linear_of, cubic_of, allpass_of, read_frac, read_hermite};
 
 // What the all-pass gives, and the next place.
-#[derive(Drop)]
+#[derive(Clone, Copy)]
 pub struct AllpassOut {
     pub out: f32,
     pub write_ptr: usize,

@@ -2,7 +2,7 @@
 ghost use Rattle.std.specs.Prelude.{◌≡◌, true};
 ghost use Rattle.utils.specs.Filter.{tan_of, dc_init, dc_of, dc_buffer, svf_new, svf_init, svf_reset, svf_setFQ, svf_of, has_same_memory, pass_of, Stays, svf_buffer};
 
-#[derive(Drop)]
+#[derive(Clone, Copy)]
 pub enum FrequencyApproximation {
     Fast,
     Dirty,
@@ -22,7 +22,7 @@ const FAST_A: f32 = 3.260e-01 * M_PI_POW_3;
 
 const FAST_B: f32 = 1.823e-01 * M_PI_POW_5;
 
-#[derive(Drop)]
+#[derive(Clone, Copy)]
 pub struct DcBlocker {
     pub pole: f32,
     pub x: f32,
@@ -79,7 +79,7 @@ pub fn tan(f: f32, approximation: FrequencyApproximation) -> f32
     }
 }
 
-#[derive(Drop)]
+#[derive(Clone, Copy)]
 pub struct Svf {
     pub g: f32,
     pub r: f32,
@@ -89,7 +89,7 @@ pub struct Svf {
 }
 
 // The filter after a sample, and the sample that it gives.
-#[derive(Drop)]
+#[derive(Clone, Copy)]
 pub struct SvfOut {
     pub svf: Svf,
     pub out: f32,
@@ -106,7 +106,7 @@ fn stands(s: Svf, t: Svf) -> bool
 }
 
 // The filter after a sample, the sample that it gives, and whether its memory is as it was.
-#[derive(Drop)]
+#[derive(Clone, Copy)]
 pub struct Passed {
     pub svf: Svf,
     pub out: f32,

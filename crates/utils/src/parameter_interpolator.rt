@@ -3,7 +3,7 @@ ghost use Rattle.std.specs.Prelude.{◌≡◌, ◌≤◌, ◌^◌};
 ghost use Rattle.utils.specs.ParameterInterpolator.{interpolator_of, next_of};
 
 // The value goes on by its increment; whoever keeps the parameter stores the last value.
-#[derive(Drop)]
+#[derive(Clone, Copy)]
 pub struct ParameterInterpolator {
     pub value: f32,
     pub increment: f32,

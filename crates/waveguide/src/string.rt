@@ -7,14 +7,14 @@ ghost use Rattle.waveguide.specs.String.{string_new, init_of, reset_of, non_line
 use utils::filter::{DcBlocker, FrequencyApproximation, Svf};
 
 // The non-linearity, each with its amount.
-#[derive(Drop)]
+#[derive(Clone, Copy)]
 pub enum StringNonLinearity {
     CurvedBridge(f32),
     Dispersion(f32),
 }
 
 // A string's state. Its lines are lent: the string line of 1,024 and the stretch line of 256 behind it.
-#[derive(Drop)]
+#[derive(Clone, Copy)]
 pub struct String {
     pub string: usize,
     pub stretch: usize,
@@ -30,7 +30,7 @@ pub struct String {
 }
 
 // The damping of a block: brightness, frequency and cutoff, crossfaded to infinite decay.
-#[derive(Drop)]
+#[derive(Clone, Copy)]
 pub struct Damping {
     pub brightness: f32,
     pub f: f32,
@@ -38,7 +38,7 @@ pub struct Damping {
 }
 
 // What a block's knobs come to.
-#[derive(Drop)]
+#[derive(Clone, Copy)]
 pub struct Params {
     pub src_ratio: f32,
     pub increment: f32,
@@ -51,21 +51,21 @@ pub struct Params {
 }
 
 // A string tuned for a block, and what the block's knobs come to.
-#[derive(Drop)]
+#[derive(Clone, Copy)]
 pub struct Prepared {
     pub string: String,
     pub params: Params,
 }
 
 // A string and the generator's word.
-#[derive(Drop)]
+#[derive(Clone, Copy)]
 pub struct Live {
     pub string: String,
     pub word: u32,
 }
 
 // A string after a block, the generator's word, and how many words the block drew.
-#[derive(Drop)]
+#[derive(Clone, Copy)]
 pub struct Played {
     pub string: String,
     pub word: u32,
@@ -73,7 +73,7 @@ pub struct Played {
 }
 
 // A string within its loop, with the dispersion noise of its next step, a guess at its next delay's whole part, and the words drawn so far.
-#[derive(Drop)]
+#[derive(Clone, Copy)]
 pub struct Underway {
     pub string: String,
     pub word: u32,
@@ -83,7 +83,7 @@ pub struct Underway {
 }
 
 // A delay that is bent, with the dispersion noise and the word after it, and for the next step its noise and the guess.
-#[derive(Drop)]
+#[derive(Clone, Copy)]
 pub struct Bent {
     pub delay: f32,
     pub dispersion_noise: f32,
@@ -93,7 +93,7 @@ pub struct Bent {
 }
 
 // What is read off the lines, and the stretch line's next place.
-#[derive(Drop)]
+#[derive(Clone, Copy)]
 pub struct Heard {
     pub s: f32,
     pub stretch: usize,

@@ -5,7 +5,7 @@ use ground::bits::{float_of, pattern_of};
 use utils::cosine_oscillator::CosineOscillator;
 
 // The oscillator after calls of `next`, and the bits of the last answer; 0 where there is none.
-#[derive(Drop)]
+#[derive(Clone, Copy)]
 struct Ended {
     oscillator: CosineOscillator,
     last: u32,

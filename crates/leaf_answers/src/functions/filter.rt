@@ -29,7 +29,7 @@ pub fn tan(f: u32, approximate: u32) -> [u32; 7] {
 }
 
 // A DC blocker after a buffer, and the digest of what it gave.
-#[derive(Drop)]
+#[derive(Clone, Copy)]
 struct AfterBuffer {
     blocker: DcBlocker,
     digest: u32,
@@ -81,7 +81,7 @@ fn filter_and(svf: Svf, digest: u32) -> [u32; 7] {
 }
 
 // A filter after samples, and the digest of what it gave.
-#[derive(Drop)]
+#[derive(Clone, Copy)]
 struct AfterSamples {
     svf: Svf,
     digest: u32,
