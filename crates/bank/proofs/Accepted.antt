@@ -114,9 +114,9 @@ module _ (kind : ℕ) (k : Knobs) (u : Bufs) (e : first (checks kind (render k u
       let l = and_true (t2 && o) a (not-false (alike u) alike_checked.0) in
       let m = and_true t2 o l.0 in
       record {
-        temp2-is = eqb-true (length u.temp2) n m.0;
-        out-is = eqb-true (length u.out) n m.1;
-        aux-is = eqb-true (length u.aux) n l.1;
+        temp2_is = eqb-true (length u.temp2) n m.0;
+        out_is = eqb-true (length u.out) n m.1;
+        aux_is = eqb-true (length u.aux) n l.1;
       }
 
   short : length u.out ≤ 4096

@@ -68,11 +68,11 @@ pub fn render_string(
     aux: &mut [f32],
 ) -> Rendered
     requires { ReadyString voice lines.old slot out.old × Alike temp.old temp_2.old out.old aux.old }
-    ensures { (x : Slot) → x.kind ≡ 1 → x.string ≡ voice → moved_by (render k (record { temp = temp.entry.now; temp2 = temp_2.old; out = out.old; aux = aux.old })) slot x word lines.old ≡ record {
+    ensures { (x : Slot) → x.kind ≡ 1 → x.string ≡ voice → moved_by (render k (record { temp = temp.old; temp2 = temp_2.old; out = out.old; aux = aux.old })) slot x word lines.old ≡ record {
       slot = with_string x result.voice;
       word = result.word;
       mem = lines.new;
-      bufs = record { temp = temp.exit.now; temp2 = temp_2.new; out = out.new; aux = aux.new };
+      bufs = record { temp = temp.new; temp2 = temp_2.new; out = out.new; aux = aux.new };
       counts = result.counts;
     } }
 {
@@ -94,11 +94,11 @@ pub fn render_modal(
     aux: &mut [f32],
 ) -> Acted
     requires { (x.kind ≡ 2) × Alike temp.old temp_2.old out.old aux.old }
-    ensures { (mem : List Float) → moved_by (render k (record { temp = temp.entry.now; temp2 = temp_2.old; out = out.old; aux = aux.old })) slot x word mem ≡ record {
+    ensures { (mem : List Float) → moved_by (render k (record { temp = temp.old; temp2 = temp_2.old; out = out.old; aux = aux.old })) slot x word mem ≡ record {
       slot = result.slot;
       word = result.word;
       mem = mem;
-      bufs = record { temp = temp.exit.now; temp2 = temp_2.new; out = out.new; aux = aux.new };
+      bufs = record { temp = temp.new; temp2 = temp_2.new; out = out.new; aux = aux.new };
       counts = result.counts;
     } }
 {
@@ -133,11 +133,11 @@ pub fn render(
     aux: &mut [f32],
 ) -> Acted
     requires { Ready x lines.old slot out.old × Alike temp.old temp_2.old out.old aux.old }
-    ensures { moved_by (render k (record { temp = temp.entry.now; temp2 = temp_2.old; out = out.old; aux = aux.old })) slot x word lines.old ≡ record {
+    ensures { moved_by (render k (record { temp = temp.old; temp2 = temp_2.old; out = out.old; aux = aux.old })) slot x word lines.old ≡ record {
       slot = result.slot;
       word = result.word;
       mem = lines.new;
-      bufs = record { temp = temp.exit.now; temp2 = temp_2.new; out = out.new; aux = aux.new };
+      bufs = record { temp = temp.new; temp2 = temp_2.new; out = out.new; aux = aux.new };
       counts = result.counts;
     } }
 {

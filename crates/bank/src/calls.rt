@@ -95,11 +95,11 @@ pub fn render(
 ) -> Rendered
     ensures { left_of (call_def (record { bank = bank; word = word; mem = lines.old }) (record {
       slot = slot;
-      act = render k (record { temp = temp.entry.now; temp2 = temp_2.old; out = out.old; aux = aux.old });
+      act = render k (record { temp = temp.old; temp2 = temp_2.old; out = out.old; aux = aux.old });
     })) ≡ record {
       answer = result.answer;
       after = record { bank = result.bank; word = result.word; mem = lines.new };
-      bufs = record { temp = temp.exit.now; temp2 = temp_2.new; out = out.new; aux = aux.new };
+      bufs = record { temp = temp.new; temp2 = temp_2.new; out = out.new; aux = aux.new };
     } }
 {
     let bad = slots::table::bad(bank, lines);

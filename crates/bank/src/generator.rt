@@ -44,11 +44,11 @@ pub fn render_lent(
 ) -> Rendered
     ensures { (left_of (call_def (record { bank = bank; word = generator.old.word; mem = lines.old }) (record {
       slot = slot;
-      act = render k (record { temp = temp.entry.now; temp2 = temp_2.old; out = out.old; aux = aux.old });
+      act = render k (record { temp = temp.old; temp2 = temp_2.old; out = out.old; aux = aux.old });
     })) ≡ record {
       answer = result.answer;
       after = record { bank = result.bank; word = result.word; mem = lines.new };
-      bufs = record { temp = temp.exit.now; temp2 = temp_2.new; out = out.new; aux = aux.new };
+      bufs = record { temp = temp.new; temp2 = temp_2.new; out = out.new; aux = aux.new };
     }) × (generator.new.word ≡ result.word) }
 {
     let w = generator.word;

@@ -1,3 +1,5 @@
+#![tactic(auto)]
+
 pub mod acts;
 pub mod calls;
 pub mod generator;

@@ -1,4 +1,4 @@
-/* The bank's calls, of libbank_abi.a (rt staticlib bank_abi). docs/ABI.md sets down the bytes of a bank and the numbers of the answers.
+/* The bank's calls, of libbank_abi.a (make target/staticlib/libbank_abi.a). docs/ABI.md sets down the bytes of a bank and the numbers of the answers.
    A slice is a pointer and the number of its elements. No pointer may be null, and nothing lent to one call may overlap. */
 #ifndef BLEIDHVAN_H
 #define BLEIDHVAN_H

@@ -2,14 +2,14 @@
 use mathlib.Core.Path.{◌≡◌, refl, sym, ◌∙◌, ap}
 use mathlib.Core.Bool.{true, false}
 use mathlib.Core.List.{List, ◌∷◌, ◌++◌}
-use Prim.Native.Nat.{ℕ, zero, suc, ◌+◌, ◌*◌}
+use Prim.Native.Nat.{ℕ, zero, suc, ◌*◌}
 use native.Mathlib.Nat.{add_comm, zero-mul, suc-mul}
 use lib.Dec.{eqb}
 use lib.ListN.{length, replicate, replicate-append-replicate}
 use lib.Ieee.{to_bits, of_bits}
 use Rattle.ground.specs.Frames.{tab}
 use Rattle.utils.specs.Filter.{svf_new, dc_init}
-use Rattle.modes.specs.Resonator.{svf_new as modeNew, filters_new, resonator_new}
+use Rattle.modes.specs.Resonator.{svf_new as mode_new, filters_new, resonator_new}
 use Rattle.modal_voice.specs.ModalVoice.{voice_new}
 use Rattle.slots.specs.declared.slots.Slot.{Slot}
 use Rattle.slots.specs.Slots.{no_string, empty_slot, fresh}
@@ -26,7 +26,7 @@ zeros zero = refl
 zeros (suc n) = ap (λ (l : List ℕ). 0 ∷ l) (zeros n)
 
 empty_zeros : encode_slot empty_slot ≡ replicate 393 0
-unfolding encode_slot slot_words voice_words string_words svf_words dc_words modal_words mode_words batch_words float_words each bytes empty_slot no_string voice_new resonator_new filters_new modeNew svf_new dc_init to_bits of_bits
+unfolding encode_slot slot_words voice_words string_words svf_words dc_words modal_words mode_words batch_words float_words each bytes empty_slot no_string voice_new resonator_new filters_new mode_new svf_new dc_init to_bits of_bits
 empty_zeros = refl
 
 each_zeros : (n k : ℕ) (x : Slot) → encode_slot x ≡ replicate k 0 → each encode_slot (replicate n x) ≡ replicate (n * k) 0

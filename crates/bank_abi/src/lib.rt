@@ -1,4 +1,6 @@
 // The bank's calls with C linkage. The bank crosses as bytes, by the layout of docs/ABI.md; the answer is 01's number, returned, and three counts.
+#![tactic(auto)]
+
 ghost use Rattle.std.specs.Prelude.{◌≡◌, ℕ, length};
 ghost use Rattle.slots.specs.Slots.{fresh};
 ghost use Rattle.slots.specs.Answers.{no_counts};
@@ -45,10 +47,10 @@ pub extern "C" fn bleidhvan_open(
     kind: u32,
     sample_rate_hz: f32,
 ) -> u32
-    ensures { (w : ℕ) → Gives (record { bytes = bytes.entry.now; word = w; mem = lines.old }) (record { slot = slot; act = opening kind sample_rate_hz }) (record {
+    ensures { (w : ℕ) → Gives (record { bytes = bytes.old; word = w; mem = lines.old }) (record { slot = slot; act = opening kind sample_rate_hz }) (record {
       number = result;
       counts = no_counts;
-      after = record { bytes = bytes.exit.now; word = w; mem = lines.new };
+      after = record { bytes = bytes.new; word = w; mem = lines.new };
       bufs = lent (opening kind sample_rate_hz);
     }) }
 {
@@ -67,10 +69,10 @@ pub extern "C" fn bleidhvan_open(
 // A string slot is reset, and its lines are cleared. A reset draws nothing: its counts are 0.
 #[unsafe(no_mangle)]
 pub extern "C" fn bleidhvan_reset(bytes: &mut [u8], lines: &mut [f32], slot: usize) -> u32
-    ensures { (w : ℕ) → Gives (record { bytes = bytes.entry.now; word = w; mem = lines.old }) (record { slot = slot; act = reset }) (record {
+    ensures { (w : ℕ) → Gives (record { bytes = bytes.old; word = w; mem = lines.old }) (record { slot = slot; act = reset }) (record {
       number = result;
       counts = no_counts;
-      after = record { bytes = bytes.exit.now; word = w; mem = lines.new };
+      after = record { bytes = bytes.new; word = w; mem = lines.new };
       bufs = lent reset;
     }) }
 {
@@ -112,14 +114,14 @@ pub extern "C" fn bleidhvan_render(
     dispersion: &mut usize,
     slow_subnormals: bool,
 ) -> u32
-    ensures { Gives (record { bytes = bytes.entry.now; word = word.old; mem = lines.old }) (record {
+    ensures { Gives (record { bytes = bytes.old; word = word.old; mem = lines.old }) (record {
       slot = slot;
-      act = render (record { sustain = sustain; trigger = trigger; accent = accent; f0 = f0; structure = structure; brightness = brightness; damping = damping }) (record { temp = temp.entry.now; temp2 = temp_2.old; out = out.old; aux = aux.old });
+      act = render (record { sustain = sustain; trigger = trigger; accent = accent; f0 = f0; structure = structure; brightness = brightness; damping = damping }) (record { temp = temp.old; temp2 = temp_2.old; out = out.old; aux = aux.old });
     }) (record {
       number = result;
-      counts = record { burst = burst.exit.now; dust = dust.new; dispersion = dispersion.new };
-      after = record { bytes = bytes.exit.now; word = word.new; mem = lines.new };
-      bufs = record { temp = temp.exit.now; temp2 = temp_2.new; out = out.new; aux = aux.new };
+      counts = record { burst = burst.new; dust = dust.new; dispersion = dispersion.new };
+      after = record { bytes = bytes.new; word = word.new; mem = lines.new };
+      bufs = record { temp = temp.new; temp2 = temp_2.new; out = out.new; aux = aux.new };
     }) }
 {
     *burst = 0;

@@ -29,14 +29,14 @@ fn render_string(
     aux: &mut [f32],
 ) -> Drawn
     requires { ((slot_at (decode_bank bytes.old) slot).kind ≡ 1) × Ready (slot_at (decode_bank bytes.old) slot) lines.old slot out.old × Alike temp.old temp_2.old out.old aux.old × (length bytes.old ≡ 3144) }
-    ensures { Wrote (record { bytes = bytes.entry.now; word = word; mem = lines.old }) (record {
+    ensures { Wrote (record { bytes = bytes.old; word = word; mem = lines.old }) (record {
       slot = slot;
-      act = render k (record { temp = temp.entry.now; temp2 = temp_2.old; out = out.old; aux = aux.old });
+      act = render k (record { temp = temp.old; temp2 = temp_2.old; out = out.old; aux = aux.old });
     }) (record {
       number = 0;
       counts = result.counts;
-      after = record { bytes = bytes.exit.now; word = result.word; mem = lines.new };
-      bufs = record { temp = temp.exit.now; temp2 = temp_2.new; out = out.new; aux = aux.new };
+      after = record { bytes = bytes.new; word = result.word; mem = lines.new };
+      bufs = record { temp = temp.new; temp2 = temp_2.new; out = out.new; aux = aux.new };
     }) }
 {
     let voice = slot_bytes::decode::string_nth(bytes, slot);
@@ -63,14 +63,14 @@ fn render_modal(
     aux: &mut [f32],
 ) -> Drawn
     requires { ((slot_at (decode_bank bytes.old) slot).kind ≡ 2) × (slot < 8) × Alike temp.old temp_2.old out.old aux.old × (length bytes.old ≡ 3144) }
-    ensures { (mem : List Float) → Wrote (record { bytes = bytes.entry.now; word = word; mem = mem }) (record {
+    ensures { (mem : List Float) → Wrote (record { bytes = bytes.old; word = word; mem = mem }) (record {
       slot = slot;
-      act = render k (record { temp = temp.entry.now; temp2 = temp_2.old; out = out.old; aux = aux.old });
+      act = render k (record { temp = temp.old; temp2 = temp_2.old; out = out.old; aux = aux.old });
     }) (record {
       number = 0;
       counts = result.counts;
-      after = record { bytes = bytes.exit.now; word = result.word; mem = mem };
-      bufs = record { temp = temp.exit.now; temp2 = temp_2.new; out = out.new; aux = aux.new };
+      after = record { bytes = bytes.new; word = result.word; mem = mem };
+      bufs = record { temp = temp.new; temp2 = temp_2.new; out = out.new; aux = aux.new };
     }) }
 {
     let x = slot_bytes::decode::nth(bytes, slot);
@@ -99,14 +99,14 @@ pub fn render(
     aux: &mut [f32],
 ) -> Drawn
     requires { (kind ≡ (slot_at (decode_bank bytes.old) slot).kind) × Ready (slot_at (decode_bank bytes.old) slot) lines.old slot out.old × Alike temp.old temp_2.old out.old aux.old × (length bytes.old ≡ 3144) }
-    ensures { Wrote (record { bytes = bytes.entry.now; word = word; mem = lines.old }) (record {
+    ensures { Wrote (record { bytes = bytes.old; word = word; mem = lines.old }) (record {
       slot = slot;
-      act = render k (record { temp = temp.entry.now; temp2 = temp_2.old; out = out.old; aux = aux.old });
+      act = render k (record { temp = temp.old; temp2 = temp_2.old; out = out.old; aux = aux.old });
     }) (record {
       number = 0;
       counts = result.counts;
-      after = record { bytes = bytes.exit.now; word = result.word; mem = lines.new };
-      bufs = record { temp = temp.exit.now; temp2 = temp_2.new; out = out.new; aux = aux.new };
+      after = record { bytes = bytes.new; word = result.word; mem = lines.new };
+      bufs = record { temp = temp.new; temp2 = temp_2.new; out = out.new; aux = aux.new };
     }) }
 {
     if around {

@@ -59,6 +59,8 @@ power j h =
 times : (x : Float) → T (finite x) → T (fits binary32 x) → Times (den x)
 times (fin s m (pos k)) p t = record { factor = 2 ^ 149; above = pow_pos 149; whole = refl }
 times (fin s m (negsuc k)) p t = power (suc k) (fine s m (negsuc k) t)
+times lib.Ieee.nan p t = elim p [ ]
+times (lib.Ieee.inf _) p t = elim p [ ]
 
 -- ---- so is the difference of two
 over_one : (a Y d X k l U : ℕ) → X * k ≡ U → Y * l ≡ U → (a * Y + d * X) * (k * l) ≡ (a * k + d * l) * U

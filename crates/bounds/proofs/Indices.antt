@@ -9,14 +9,14 @@ use lib.Dec.{T, ltb, leb, eqb, ltb→lt, lt→ltb, lit<}
 use lib.IntN.{ℤ, pos, negsuc}
 use lib.Pow.{pow_pos, pow-add}
 use lib.Ieee.{Float, nan, inf, fin, binary32, up, down, round, sub, mul, lt, le, fits, of_bits, of_int, to_unsigned}
-use lib.Ieee.Fits.{of_int-fits, add-fits, down_pos, and_l, and_r}
+use lib.Ieee.Fits.{add-fits, down_pos, and_l, and_r}
 use lib.Ieee.Exact.{HasValue, round_exact}
 use lib.Ieee.Back.{round_whole, whole_unique}
 use lib.Ieee.Scale.{finite}
 use Rattle.ground.specs.F32.{◌⊕◌, ◌⊖◌, ◌⊗◌, c128, c256}
 use Rattle.ground.specs.Floats.{whole_part, fraction_of}
 use Rattle.utils.specs.Units.{high_index, low_index}
-use Rattle.bounds.proofs.Order.{zero_f, one_f, two64, le_refl_float, le_trans_float, not-le→le, AtMost, le→number, number→le, not-le→number, le_or, lt_of_le}
+use Rattle.bounds.proofs.Order.{zero_f, one_f, two64, le_refl_float, AtMost, le→number, number→le, not-le→number, le_or, lt_of_le}
 use Rattle.bounds.proofs.Monotone.{over, near_mono, sub_near, sub_mono, mul_le}
 use Rattle.bounds.proofs.Bounds.{int, minus, Between, inside, encloses, is_in, add_in, sub_in, mul_in, const_in, in_test}
 
@@ -110,8 +110,8 @@ minus_whole m e (fin false n d) W r v p h =
     let near = sub_near (fin false m e) (fin false n d) tt tt in
     let D = mul-pos (down_pos e) (down_pos d) in
     record {
-      low-finite = tt;
-      high-finite = tt;
+      low_finite = tt;
+      high_finite = tt;
       least = near_mono (zero-lt-suc 0) D (over 0 refl zero_is) near (left_over (m * up e) (down e) W r (n * up d) (down d) p v.1);
       most = near_mono D (zero-lt-suc 16777215) near (over 16777215 refl one_is) (taken_off (m * up e) (down e) W r (n * up d) (down d) p v.1 h);
     }
@@ -137,6 +137,7 @@ cut_is m e h =
     go : (t : Bool) → (T (not t) → m * up e * 1 + 0 * down e < 1 * down e + 0 * 1) → (u : Bool) → T u → cond (t && u) (min (m * up e / down e) (2 ^ 64 - 1)) 0 ≡ m * up e / down e
     go true f true z = let q : m * up e / down e < 2 ^ 64 = (div-lt_iff_lt-mul (down_pos e)).1 h in omega arith
     go false f u z = let q : m * up e / down e < 1 = (div-lt_iff_lt-mul (down_pos e)).1 (omega (arith, f tt)) in omega arith
+    go true f false z = elim z [ ]
 
 remainder : (m : ℕ) (e : ℤ) → m < 16777216 → m * up e % down e * 16777216 ≤ 16777215 * down e
 remainder m (pos k) d = omega (arith, mod-lt (m * 2 ^ k) (zero-lt-suc 0))

@@ -93,11 +93,19 @@ add_near (fin false m e) (fin false n d) p q = sum_near false (m * up e * down d
 add_near (fin false m e) (fin true n d) p q = sum_near false (m * up e * down d) true (n * up d * down e) (down e * down d) _ _ (omega arith) (omega arith)
 add_near (fin true m e) (fin false n d) p q = sum_near true (m * up e * down d) false (n * up d * down e) (down e * down d) _ _ (omega arith) (omega arith)
 add_near (fin true m e) (fin true n d) p q = sum_near true (m * up e * down d) true (n * up d * down e) (down e * down d) _ _ (omega arith) refl
+add_near nan y p q = elim p [ ]
+add_near (inf _) y p q = elim p [ ]
+add_near (fin false m e) nan p q = elim q [ ]
+add_near (fin false m e) (inf _) p q = elim q [ ]
+add_near (fin true m e) nan p q = elim q [ ]
+add_near (fin true m e) (inf _) p q = elim q [ ]
 
 pub sub_near : (x y : Float) → T (finite x) → T (finite y) → Near (plus x * den y + less y * den x) (less x * den y + plus y * den x) (den x * den y) (x ⊖ y)
 unfolding sub neg
 sub_near x (fin true n d) p q = add_near x (fin false n d) p q
 sub_near x (fin false n d) p q = add_near x (fin true n d) p q
+sub_near x nan p q = elim q [ ]
+sub_near x (inf _) p q = elim q [ ]
 
 mul_near : (x y : Float) → T (finite x) → T (finite y) → Near (plus x * plus y + less x * less y) (plus x * less y + less x * plus y) (den x * den y) (x ⊗ y)
 unfolding mul
@@ -105,6 +113,12 @@ mul_near (fin false m e) (fin false n d) p q = over (m * up e * (n * up d)) (ome
 mul_near (fin false m e) (fin true n d) p q = under (m * up e * (n * up d)) (omega arith) refl
 mul_near (fin true m e) (fin false n d) p q = under (m * up e * (n * up d)) (omega arith) refl
 mul_near (fin true m e) (fin true n d) p q = over (m * up e * (n * up d)) (omega arith) refl
+mul_near nan y p q = elim p [ ]
+mul_near (inf _) y p q = elim p [ ]
+mul_near (fin false m e) nan p q = elim q [ ]
+mul_near (fin false m e) (inf _) p q = elim q [ ]
+mul_near (fin true m e) nan p q = elim q [ ]
+mul_near (fin true m e) (inf _) p q = elim q [ ]
 
 -- the divisor above zero
 div_near : (x y : Float) → T (finite x) → T (positive y) → Near (plus x * den y) (less x * den y) (plus y * den x) (x ⊘ y)
@@ -117,6 +131,10 @@ div_near (fin s m e) (fin false n d) p q = go (eqb n 0) (λ t. absurd (lt_irrefl
     go true f s = absurd (f tt)
     go false f true = under (m * up e * down d) (omega arith) refl
     go false f false = over (m * up e * down d) (omega arith) refl
+div_near nan y p q = elim p [ ]
+div_near (inf _) y p q = elim p [ ]
+div_near (fin s m e) nan p q = elim q [ ]
+div_near (fin s m e) (inf _) p q = elim q [ ]
 
 -- ---- which operand comes first does not matter
 mixed : (a b c : ℕ) → cond (ltb a b) (round binary32 true (b - a) c) (round binary32 false (a - b) c) ≡ cond (ltb b a) (round binary32 false (a - b) c) (round binary32 (ltb a b) (b - a) c)
@@ -200,10 +218,14 @@ sub_mono x x' y y' p p' q q' h k = add_mono x x' (neg y) (neg y') p p' (neg_fini
 not_less : (y : Float) → T (finite y) → T (le zero_f y) → less y ≡ 0
 not_less (fin true n d) q h = omega (arith, le→number zero_f (fin true n d) tt q h)
 not_less (fin false n d) q h = refl
+not_less nan q h = elim q [ ]
+not_less (inf _) q h = elim q [ ]
 
 not_plus : (y : Float) → T (finite y) → T (le y zero_f) → plus y ≡ 0
 not_plus (fin true n d) q h = refl
 not_plus (fin false n d) q h = omega (arith, le→number (fin false n d) zero_f q tt h)
+not_plus nan q h = elim q [ ]
+not_plus (inf _) q h = elim q [ ]
 
 by_plus : (x y : Float) → T (finite x) → T (finite y) → T (le zero_f y) → Near (plus x * plus y) (less x * plus y) (den x * den y) (x ⊗ y)
 by_plus x y p q h = simp (mul-zero, add-zero, zero-add) at (rw (not_less y q h) at (mul_near x y p q))
@@ -229,6 +251,8 @@ mul_ge x x' y p p' q n h =
 plus_pos : (y : Float) → T (positive y) → 0 < plus y
 plus_pos (fin true n d) q = absurd q
 plus_pos (fin false n d) q = mul-pos (ltb→lt 0 n q) (up_pos d)
+plus_pos nan q = elim q [ ]
+plus_pos (inf _) q = elim q [ ]
 
 pub div_le : (x x' y : Float) → T (finite x) → T (finite x') → T (positive y) → T (le x x') → T (le (x ⊘ y) (x' ⊘ y))
 div_le x x' y p p' q h =
@@ -240,6 +264,10 @@ larger : (y y' : Float) → T (positive y) → T (positive y') → T (le y y') �
 larger (fin true n d) y' q q' h = absurd q
 larger (fin false n d) (fin true k c) q q' h = absurd q'
 larger (fin false n d) (fin false k c) q q' h = omega (arith, le→number (fin false n d) (fin false k c) tt tt h)
+larger nan y' q q' h = elim q [ ]
+larger (inf _) y' q q' h = elim q [ ]
+larger (fin false n d) nan q q' h = elim q' [ ]
+larger (fin false n d) (inf _) q q' h = elim q' [ ]
 
 across : (a d y c y' c' : ℕ) → y * c' ≤ y' * c → a * c' * (y * d) ≤ a * c * (y' * d)
 across a d y c y' c' h = let k = simp sorted at (mul-le-mul_right (a * d) h) in simp sorted (omega arith)

@@ -61,6 +61,7 @@ and_true false b t = absurd t
 
 or_l : (a b : Bool) → T a → T (a || b)
 or_l true b t = tt
+or_l false b t = elim t [ ]
 
 or_r : (a b : Bool) → T b → T (a || b)
 or_r true b t = tt
@@ -95,6 +96,12 @@ le→number (fin true m e) (fin true n d) p q h =
     let a = m * up e * down d in
     let b = n * up d * down e in
     omega (arith, test→le b a (eqb a b) (λ t. sym (eqb→eq a b t)) h)
+le→number nan y p q h = elim p [ ]
+le→number (inf _) y p q h = elim p [ ]
+le→number (fin false m e) nan p q h = elim q [ ]
+le→number (fin false m e) (inf _) p q h = elim q [ ]
+le→number (fin true m e) nan p q h = elim q [ ]
+le→number (fin true m e) (inf _) p q h = elim q [ ]
 
 pub number→le : (x y : Float) → T (finite x) → T (finite y) → AtMost (plus x) (less x) (den x) (plus y) (less y) (den y) → T (le x y)
 unfolding le
@@ -114,6 +121,12 @@ number→le (fin true m e) (fin true n d) p q h =
     let a = m * up e * down d in
     let b = n * up d * down e in
     le→test b a (eqb a b) (λ q. eqb_of a b (sym q)) (omega arith)
+number→le nan y p q h = elim p [ ]
+number→le (inf _) y p q h = elim p [ ]
+number→le (fin false m e) nan p q h = elim q [ ]
+number→le (fin false m e) (inf _) p q h = elim q [ ]
+number→le (fin true m e) nan p q h = elim q [ ]
+number→le (fin true m e) (inf _) p q h = elim q [ ]
 
 -- products multiplied out and sorted
 pub ruleset sorted = (add-mul, mul-add, mul_assoc, mul_comm, mul_left_comm)
@@ -198,6 +211,12 @@ finite_not_lt (fin false m e) (fin false n d) p q h = number→le (fin false n d
 finite_not_lt (fin false m e) (fin true n d) p q h = number→le (fin true n d) (fin false m e) q p (omega arith)
 finite_not_lt (fin true m e) (fin false n d) p q h = number→le (fin false n d) (fin true m e) q p (omega (arith, nltb→le 0 (m * up e * down d + n * up d * down e) h))
 finite_not_lt (fin true m e) (fin true n d) p q h = number→le (fin true n d) (fin true m e) q p (omega (arith, nltb→le (n * up d * down e) (m * up e * down d) h))
+finite_not_lt nan y p q h = elim p [ ]
+finite_not_lt (inf _) y p q h = elim p [ ]
+finite_not_lt (fin false m e) nan p q h = elim q [ ]
+finite_not_lt (fin false m e) (inf _) p q h = elim q [ ]
+finite_not_lt (fin true m e) nan p q h = elim q [ ]
+finite_not_lt (fin true m e) (inf _) p q h = elim q [ ]
 
 -- two that are no NaN: not below is at least
 pub not-lt→le : (x y : Float) → T (not (is_nan x)) → T (not (is_nan y)) → T (not (lt x y)) → T (le y x)
@@ -262,6 +281,8 @@ lt_then_le x y z h k = passed (lt x z) (λ n. lt→not-le x y h (le_trans_float 
 pub finite_not_nan : (x : Float) → T (finite x) → T (not (is_nan x))
 unfolding is_nan
 finite_not_nan (fin s m e) p = tt
+finite_not_nan nan p = elim p [ ]
+finite_not_nan (inf _) p = elim p [ ]
 
 -- what is at most a finite float and at least another is finite
 pub finite_between : (lo x hi : Float) → T (finite lo) → T (finite hi) → T (le lo x) → T (le x hi) → T (finite x)
@@ -270,11 +291,17 @@ finite_between (fin s m e) nan hi p q h k = absurd h
 finite_between (fin s m e) (inf true) hi p q h k = absurd h
 finite_between (fin s m e) (inf false) (fin t n d) p q h k = absurd k
 finite_between (fin s m e) (fin t n d) hi p q h k = tt
+finite_between nan _ hi p q h k = elim p [ ]
+finite_between (inf _) _ hi p q h k = elim p [ ]
+finite_between (fin s m e) (inf false) nan p q h k = elim q [ ]
+finite_between (fin s m e) (inf false) (inf _) p q h k = elim q [ ]
 
 -- ---- the sign turned
 pub neg_finite : (x : Float) → T (finite x) → T (finite (neg x))
 unfolding neg
 neg_finite (fin s m e) p = tt
+neg_finite nan p = elim p [ ]
+neg_finite (inf _) p = elim p [ ]
 
 finite_neg_le : (x y : Float) → T (finite x) → T (finite y) → T (le x y) → T (le (neg y) (neg x))
 unfolding neg
@@ -282,6 +309,12 @@ finite_neg_le (fin true m e) (fin true n d) p q h = number→le (fin false n d) 
 finite_neg_le (fin true m e) (fin false n d) p q h = number→le (fin true n d) (fin false m e) q p (omega (arith, le→number (fin true m e) (fin false n d) p q h))
 finite_neg_le (fin false m e) (fin true n d) p q h = number→le (fin false n d) (fin true m e) q p (omega (arith, le→number (fin false m e) (fin true n d) p q h))
 finite_neg_le (fin false m e) (fin false n d) p q h = number→le (fin true n d) (fin true m e) q p (omega (arith, le→number (fin false m e) (fin false n d) p q h))
+finite_neg_le nan y p q h = elim p [ ]
+finite_neg_le (inf _) y p q h = elim p [ ]
+finite_neg_le (fin false m e) nan p q h = elim q [ ]
+finite_neg_le (fin false m e) (inf _) p q h = elim q [ ]
+finite_neg_le (fin true m e) nan p q h = elim q [ ]
+finite_neg_le (fin true m e) (inf _) p q h = elim q [ ]
 
 pub neg_le : (x y : Float) → T (le x y) → T (le (neg y) (neg x))
 unfolding le neg

@@ -1,7 +1,7 @@
 -- The ledger's numbers are the string voice's: the period, the ratio, the phase and the steps. Assumes nothing.
 use mathlib.Core.Path.{◌≡◌, refl, ap, ◌∙◌}
 use mathlib.Core.Bool.{Bool, true, false, ◌&&◌, ◌||◌, cond}
-use Prim.Native.Nat.{ℕ, zero, suc, ◌+◌, ◌-◌}
+use Prim.Native.Nat.{ℕ, zero, suc, ◌+◌}
 use lib.Dec.{T}
 use lib.Ieee.{Float, binary32, of_bits, fits, lt, le, to_unsigned}
 use denote.Floats.{is_true}

@@ -162,8 +162,8 @@ module _ (seed : ℕ) (mem : List Float) (calls : List Call) where
       (record {
         answers = f.answers;
         balance = balanced es ls f.answers;
-        dealt-length = ap length f.dealt_is ∙ length_stream (drawn es) seed;
-        dealt-at = λ k h. ap (λ (x : List ℕ). get_or x k 0) f.dealt_is ∙ stream_at (drawn es) seed k 0 h;
+        dealt_length = ap length f.dealt_is ∙ length_stream (drawn es) seed;
+        dealt_at = λ k h. ap (λ (x : List ℕ). get_or x k 0) f.dealt_is ∙ stream_at (drawn es) seed k 0 h;
         ends = f.ends;
         kept = all_kept calls (start seed mem);
         apart = λ _ s h.
@@ -179,8 +179,8 @@ module _ (seed : ℕ) (mem : List Float) (calls : List Call) where
       record {
         answers = f.answers;
         balance = balanced es (ledger_from (length mem) (replicate 8 fresh_led) calls) f.answers;
-        dealt-length = ap length f.dealt_is ∙ sym f.drawn_is;
-        dealt-at = λ k h. absurd (none_below k (drawn es) f.drawn_is h);
+        dealt_length = ap length f.dealt_is ∙ sym f.drawn_is;
+        dealt_at = λ k h. absurd (none_below k (drawn es) f.drawn_is h);
         ends = ap (λ (w : World). w.word) f.ends ∙ ap (λ (n : ℕ). moved n seed) (sym f.drawn_is);
         kept = all_kept calls (start seed mem);
         apart = λ e. absurd (d e);

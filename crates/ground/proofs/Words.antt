@@ -1,5 +1,5 @@
 -- Laws on plain numbers: a product of two words, what `compare` gives, and a word's digits from its leading zeros. Assumes nothing.
-use Rattle.std.proofs.Common.{◌≡◌, ℕ, zero, suc, ◌+◌, ◌-◌, ◌*◌, ◌/◌, ◌%◌, ◌^◌, ◌<◌, ◌≤◌, pos, sym, refl, ap, ◌∙◌, subst, le_trans, le_of_eq, le_refl, lt_of_lt_of_le, le_of_suc-le-suc, not-suc-le-zero, lt_of_le_of_lt, le_of_lt, lt_irrefl, mul-le-mul_right, mod-eq_of_lt, zero-lt-suc, mul_assoc, mul_comm, add_comm, mul-le-mul_left, mul-lt-mul_of_pos_right, one-mul, pow-suc, lt_of_not-le, sub-add_cancel, not-le_of_lt, add-one, arith, lit<, pow_pos, pow_mono, pow-add, shl_lt, shl_exact}
+use Rattle.std.proofs.Common.{◌≡◌, ℕ, zero, suc, ◌+◌, ◌-◌, ◌*◌, ◌/◌, ◌%◌, ◌^◌, ◌<◌, ◌≤◌, pos, sym, ap, ◌∙◌, subst, le_trans, le_of_eq, le_refl, lt_of_lt_of_le, le_of_suc-le-suc, not-suc-le-zero, lt_of_le_of_lt, le_of_lt, mod-eq_of_lt, zero-lt-suc, mul_assoc, mul-le-mul_left, mul-lt-mul_of_pos_right, pow-suc, lt_of_not-le, sub-add_cancel, not-le_of_lt, arith, pow_pos, pow_mono, pow-add}
 use mathlib.Core.Path.{subst⁻¹}
 use Prim.Native.Nat.compare
 use Prim.Native.Nat.{Ordering}

@@ -1,5 +1,7 @@
 // A few frames in two passes: the last 8 modes through all of them, what is heard of those kept in rows, then the others and every sum.
 // The higher modes die away first, and their subnormal products then stand close together and not among those of the others.
+#![tactic(auto)]
+
 ghost use Rattle.std.specs.Prelude.{◌≡◌, ℕ, ◌<◌, ◌≤◌, length};
 ghost use Rattle.ground.specs.Frames.{scan, over};
 ghost use Rattle.modes.specs.OnePass.{frame_of};
@@ -36,7 +38,7 @@ fn tail_frame(
     x: f32,
 )
     requires { at < 64 }
-    ensures { ((state_1.new, state_2.new), rows.new) ≡ tail_frame (record { g = g.entry.now; r_plus_g = r_plus_g.now; h = h.now; gain = gain.now }) at (state_1.old, state_2.old) rows.old x }
+    ensures { ((state_1.new, state_2.new), rows.new) ≡ tail_frame (record { g = g.now; r_plus_g = r_plus_g.now; h = h.now; gain = gain.now }) at (state_1.old, state_2.old) rows.old x }
 {
     let mut bands = [0.0f32; 24];
     tick_places(
@@ -57,7 +59,7 @@ fn run_tail(
     rows: &mut [f32; 512],
 )
     requires { (length in_.now ≤ 64) × (length rows.old ≡ 512) }
-    ensures { ((state_1.new, state_2.new) ≡ over (tail_state (record { g = g.entry.now; r_plus_g = r_plus_g.now; h = h.now; gain = gain.now })) (state_1.old, state_2.old) in_.now) × Rows (record { g = g.entry.now; r_plus_g = r_plus_g.now; h = h.now; gain = gain.now }) (state_1.old, state_2.old) in_.now rows.new }
+    ensures { ((state_1.new, state_2.new) ≡ over (tail_state (record { g = g.now; r_plus_g = r_plus_g.now; h = h.now; gain = gain.now })) (state_1.old, state_2.old) in_.now) × Rows (record { g = g.now; r_plus_g = r_plus_g.now; h = h.now; gain = gain.now }) (state_1.old, state_2.old) in_.now rows.new }
 {
     let n = in_.len();
     let mut i = 0;
@@ -97,7 +99,7 @@ fn head_frame(
     y: f32,
 ) -> f32
     requires { (at < 64) × Fitting (row_at rows.now at) }
-    ensures { ((state_1.new, state_2.new), result) ≡ head_frame (record { g = g.entry.now; r_plus_g = r_plus_g.now; h = h.now; gain = gain.now }) (row_at rows.now at) (state_1.old, state_2.old) x y }
+    ensures { ((state_1.new, state_2.new), result) ≡ head_frame (record { g = g.now; r_plus_g = r_plus_g.now; h = h.now; gain = gain.now }) (row_at rows.now at) (state_1.old, state_2.old) x y }
 {
     let mut bands = [0.0f32; 24];
     tick_places(g, r_plus_g, h, gain, state_1, state_2, &mut bands, x, 0, 16);
@@ -118,7 +120,7 @@ fn run_head(
     rows: &[f32; 512],
 )
     requires { (length in_.now ≤ 64) × (length in_.now ≡ length out.old) × ((j : ℕ) → j < length in_.now → Fitting (row_at rows.now j)) }
-    ensures { ((state_1.new, state_2.new), out.new) ≡ head_pass (record { g = g.entry.now; r_plus_g = r_plus_g.now; h = h.now; gain = gain.now }) rows.now (state_1.old, state_2.old) in_.now out.old }
+    ensures { ((state_1.new, state_2.new), out.new) ≡ head_pass (record { g = g.now; r_plus_g = r_plus_g.now; h = h.now; gain = gain.now }) rows.now (state_1.old, state_2.old) in_.now out.old }
 {
     let n = in_.len();
     let mut i = 0;
@@ -142,7 +144,7 @@ pub fn run_halves(
     out: &mut [f32],
 )
     requires { (length in_.now ≤ 64) × (length in_.now ≡ length out.old) × (length state_1.old ≡ 24) × (length state_2.old ≡ 24) }
-    ensures { ((state_1.new, state_2.new), out.new) ≡ scan (frame_of (record { g = g.entry.now; r_plus_g = r_plus_g.now; h = h.now; gain = gain.now })) (state_1.old, state_2.old) in_.now out.old }
+    ensures { ((state_1.new, state_2.new), out.new) ≡ scan (frame_of (record { g = g.now; r_plus_g = r_plus_g.now; h = h.now; gain = gain.now })) (state_1.old, state_2.old) in_.now out.old }
 {
     let mut rows = [0.0f32; 512];
     run_tail(g, r_plus_g, h, gain, state_1, state_2, in_, &mut rows);

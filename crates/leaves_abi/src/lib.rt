@@ -1,4 +1,6 @@
 // The leaves whose speed is compared with the Rust's, each over a buffer, for a host to call.
+#![tactic(auto)]
+
 ghost use Rattle.std.specs.Prelude.{◌≡◌};
 ghost use Rattle.ground.specs.Draw.{run, Ran};
 ghost use Rattle.leaves_abi.specs.Leaves.{filtered, drawn_floats, ratios_of, hermites_of};

@@ -195,9 +195,9 @@ module _ (k : Mode) (s : ResonatorSvf) (m : Modes) (one two temp temp2 out aux :
   rest_alike {n} {i} {e} {ts} {os} {us} v l g =
       let px = part_size i e temp l (omega (arith, v.all, g)) in
       record {
-        temp2-is = part_size i e ts l (omega (arith, v.temp2_size, g)) ∙ sym px;
-        out-is = part_size i e os l (omega (arith, v.out_size, g)) ∙ sym px;
-        aux-is = part_size i e us l (omega (arith, v.aux_size, g)) ∙ sym px;
+        temp2_is = part_size i e ts l (omega (arith, v.temp2_size, g)) ∙ sym px;
+        out_is = part_size i e os l (omega (arith, v.out_size, g)) ∙ sym px;
+        aux_is = part_size i e us l (omega (arith, v.aux_size, g)) ∙ sym px;
       }
 
   pub rest_end : {n i : ℕ} {ts os us ones twos : List Float} {filter : ResonatorSvf} → Rest n i ts os us ones twos filter → n ≤ i

@@ -29,11 +29,11 @@ pub cutoff_reads : (k : Knobs) → cutoff_for k ≡ min_f (cond k.sustain (c4 �
 unfolding cutoff_for
 cutoff_reads k = refl
 
--- those of strikeOf
+-- those of strike_of
 abbrev pub strike_semitones : Float → Float
 strike_semitones cutoff = cutoff ⊗ cutoff ⊗ c24
 
--- those of q_sqrt in processOf
+-- those of q_sqrt in process_of
 abbrev pub decay_semitones : Float → Float
 decay_semitones damping = damping ⊗ c79·7
 

@@ -224,7 +224,7 @@ fn frames_loud(
     aux: &mut [f32],
 ) -> ResonatorSvf
     requires { Alike temp.now temp_2.old out.old aux.old × (length state_1.old ≡ 24) × (length state_2.old ≡ 24) }
-    ensures { record { filter = result; state_1 = state_1.new; state_2 = state_2.new; temp2 = temp_2.new; out = out.new; aux = aux.new } ≡ sung_of k s (record { g = g.entry.now; r_plus_g = r_plus_g.now; h = h.now; gain = gain.now }) state_1.old state_2.old temp.now temp_2.old out.old aux.old }
+    ensures { record { filter = result; state_1 = state_1.new; state_2 = state_2.new; temp2 = temp_2.new; out = out.new; aux = aux.new } ≡ sung_of k s (record { g = g.now; r_plus_g = r_plus_g.now; h = h.now; gain = gain.now }) state_1.old state_2.old temp.now temp_2.old out.old aux.old }
 {
     let n = temp.len();
     let mut filter_1 = s.state_1;
@@ -294,7 +294,7 @@ fn frames_apart(
     aux: &mut [f32],
 ) -> ResonatorSvf
     requires { (length temp.now ≤ 64) × Alike temp.now temp_2.old out.old aux.old × (length state_1.old ≡ 24) × (length state_2.old ≡ 24) }
-    ensures { record { filter = result; state_1 = state_1.new; state_2 = state_2.new; temp2 = temp_2.new; out = out.new; aux = aux.new } ≡ sung_of k s (record { g = g.entry.now; r_plus_g = r_plus_g.now; h = h.now; gain = gain.now }) state_1.old state_2.old temp.now temp_2.old out.old aux.old }
+    ensures { record { filter = result; state_1 = state_1.new; state_2 = state_2.new; temp2 = temp_2.new; out = out.new; aux = aux.new } ≡ sung_of k s (record { g = g.now; r_plus_g = r_plus_g.now; h = h.now; gain = gain.now }) state_1.old state_2.old temp.now temp_2.old out.old aux.old }
 {
     let filter = filter_frames(k, s, temp, temp_2, aux);
     halves::run_halves(g, r_plus_g, h, gain, state_1, state_2, temp_2, out);
@@ -317,7 +317,7 @@ fn frames_some(
     aux: &mut [f32],
 ) -> ResonatorSvf
     requires { (length temp.now ≤ 64) × Alike temp.now temp_2.old out.old aux.old × (length state_1.old ≡ 24) × (length state_2.old ≡ 24) }
-    ensures { record { filter = result; state_1 = state_1.new; state_2 = state_2.new; temp2 = temp_2.new; out = out.new; aux = aux.new } ≡ sung_of k s (record { g = g.entry.now; r_plus_g = r_plus_g.now; h = h.now; gain = gain.now }) state_1.old state_2.old temp.now temp_2.old out.old aux.old }
+    ensures { record { filter = result; state_1 = state_1.new; state_2 = state_2.new; temp2 = temp_2.new; out = out.new; aux = aux.new } ≡ sung_of k s (record { g = g.now; r_plus_g = r_plus_g.now; h = h.now; gain = gain.now }) state_1.old state_2.old temp.now temp_2.old out.old aux.old }
 {
     if modes::resonator::rests(state_1, state_2) {
         return frames_apart(
@@ -345,7 +345,7 @@ fn frames_plain(
     aux: &mut [f32],
 ) -> ResonatorSvf
     requires { Alike temp.now temp_2.old out.old aux.old × (length state_1.old ≡ 24) × (length state_2.old ≡ 24) }
-    ensures { record { filter = result; state_1 = state_1.new; state_2 = state_2.new; temp2 = temp_2.new; out = out.new; aux = aux.new } ≡ sung_of k s (record { g = g.entry.now; r_plus_g = r_plus_g.now; h = h.now; gain = gain.now }) state_1.old state_2.old temp.now temp_2.old out.old aux.old }
+    ensures { record { filter = result; state_1 = state_1.new; state_2 = state_2.new; temp2 = temp_2.new; out = out.new; aux = aux.new } ≡ sung_of k s (record { g = g.now; r_plus_g = r_plus_g.now; h = h.now; gain = gain.now }) state_1.old state_2.old temp.now temp_2.old out.old aux.old }
 {
     let n = temp.len();
     let mut kept = s;
@@ -387,7 +387,7 @@ fn frames_around(
     aux: &mut [f32],
 ) -> ResonatorSvf
     requires { Alike temp.now temp_2.old out.old aux.old × (length state_1.old ≡ 24) × (length state_2.old ≡ 24) }
-    ensures { record { filter = result; state_1 = state_1.new; state_2 = state_2.new; temp2 = temp_2.new; out = out.new; aux = aux.new } ≡ sung_of k s (record { g = g.entry.now; r_plus_g = r_plus_g.now; h = h.now; gain = gain.now }) state_1.old state_2.old temp.now temp_2.old out.old aux.old }
+    ensures { record { filter = result; state_1 = state_1.new; state_2 = state_2.new; temp2 = temp_2.new; out = out.new; aux = aux.new } ≡ sung_of k s (record { g = g.now; r_plus_g = r_plus_g.now; h = h.now; gain = gain.now }) state_1.old state_2.old temp.now temp_2.old out.old aux.old }
 {
     let mut quiet = Quiet {
         low: false,
@@ -432,7 +432,7 @@ fn frames_at(
     aux: &mut [f32],
 ) -> ResonatorSvf
     requires { Alike temp.now temp_2.old out.old aux.old × (length state_1.old ≡ 24) × (length state_2.old ≡ 24) }
-    ensures { record { filter = result; state_1 = state_1.new; state_2 = state_2.new; temp2 = temp_2.new; out = out.new; aux = aux.new } ≡ sung_of k s (record { g = g.entry.now; r_plus_g = r_plus_g.now; h = h.now; gain = gain.now }) state_1.old state_2.old temp.now temp_2.old out.old aux.old }
+    ensures { record { filter = result; state_1 = state_1.new; state_2 = state_2.new; temp2 = temp_2.new; out = out.new; aux = aux.new } ≡ sung_of k s (record { g = g.now; r_plus_g = r_plus_g.now; h = h.now; gain = gain.now }) state_1.old state_2.old temp.now temp_2.old out.old aux.old }
 {
     if around {
         return frames_around(

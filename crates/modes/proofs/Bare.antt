@@ -65,6 +65,7 @@ tiny_is = refl
 
 neg_above : (z : Float) → T (above z) → T (not_minus (neg z))
 unfolding neg
+neg_above nan h = absurd h
 neg_above (inf s) h = tt
 neg_above (fin false (suc m) e) h = tt
 neg_above (fin false zero e) h = absurd h

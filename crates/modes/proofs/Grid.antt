@@ -1,15 +1,15 @@
 -- Where a product of two f32 is subnormal, the product in f64, put on the grid of the least f32, is the product in f32. Assumes nothing.
 use mathlib.Core.Path.{◌≡◌, refl, sym, ap, ◌∙◌, subst}
 use Prim.Native.Nat.{ℕ, zero, suc, ◌+◌, ◌-◌, ◌*◌, ◌/◌, ◌%◌, ◌^◌, ◌≤◌, ◌<◌, compare, Ordering}
-use native.Mathlib.Nat.{one-mul, zero-mul, zero-lt-suc, lt_irrefl, le_trans, le_of_eq, lt_of_lt_of_le, lt_of_le_of_lt, lt_of_not-le, not-le_of_lt, mul-one, mul_comm, mul_assoc, mul_left_comm, mul_right_comm, mul-mul-mul_comm, mul-pos, mul-lt-mul_of_pos_right, mul-le-mul_right, le_of_mul-le-mul_right, le-div_iff_mul-le, div-lt_iff_lt-mul, add-mul-div_right, add-mul-mod_self_right, le_of_lt, mul-le-mul, lt_of_mul-lt-mul_right, eq_of_mul-eq-mul_right, add-mul}
+use native.Mathlib.Nat.{one-mul, zero-mul, zero-lt-suc, lt_irrefl, le_trans, le_of_eq, lt_of_lt_of_le, lt_of_le_of_lt, lt_of_not-le, not-le_of_lt, mul-one, mul_comm, mul_assoc, mul_left_comm, mul_right_comm, mul-mul-mul_comm, mul-pos, mul-lt-mul_of_pos_right, mul-le-mul_right, le-div_iff_mul-le, div-lt_iff_lt-mul, add-mul-div_right, add-mul-mod_self_right, le_of_lt, mul-le-mul, lt_of_mul-lt-mul_right, eq_of_mul-eq-mul_right, add-mul}
 use native.Mathlib.Omega.{arith}
 use mathlib.Core.Bool.{Bool, true, false, not, ◌&&◌, ◌||◌, cond, beq, true≢false, false≢true}
 use lib.IntN.{ℤ, pos, negsuc}
 use lib.Dec.{T, ltb, leb, eqb, nltb→le, ltb→lt, lt→ltb, leb→le, eqb→eq, lit<, lit≤}
 use lib.Pow.{pow-add, pow_pos, pow_mono, pow-lt}
-use lib.Ieee.{Float, nan, inf, fin, Format, binary32, binary64, prec, emax, low, up, down, unlike, size, nearest, units, round, sum, add, sub, mul, lt, eq, fits, is_nan, of_bits}
+use lib.Ieee.{Float, nan, inf, fin, binary32, binary64, up, down, unlike, size, nearest, units, round, sum, add, sub, mul, lt, eq, fits, is_nan, of_bits}
 use lib.Ieee.Digits.{size-lt, size-le}
-use lib.Ieee.Fits.{down_pos, up_pos, core, nearest-le, round_is, round-fits, mul-fits, sub-fits, neg-fits, fits_widens, and_i, and_l, and_r}
+use lib.Ieee.Fits.{down_pos, core, nearest-le, round_is, mul-fits, sub-fits, fits_widens, and_i, and_l, and_r}
 use lib.Ieee.Exact.{HasValue, units_val, round_exact}
 use lib.Ieee.Nearest.{closest, closest_same}
 use lib.Ieee.Scale.{round_same, finite}

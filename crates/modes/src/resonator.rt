@@ -437,7 +437,7 @@ pub fn tick_all(
     x: f32,
 )
     requires { (length state_1.old ≡ 24) × (length state_2.old ≡ 24) × (length bands.old ≡ 24) }
-    ensures { record { state_1 = state_1.exit.now; state_2 = state_2.new; bands = bands.new } ≡ bands_of (record { g = g.entry.now; r_plus_g = r_plus_g.now; h = h.now; gain = gain.now }) state_1.entry.now state_2.old x }
+    ensures { record { state_1 = state_1.new; state_2 = state_2.new; bands = bands.new } ≡ bands_of (record { g = g.now; r_plus_g = r_plus_g.now; h = h.now; gain = gain.now }) state_1.old state_2.old x }
 {
     let mut i = 0;
     while i < 24 {
@@ -520,7 +520,7 @@ pub fn tick_places(
     end: usize,
 )
     requires { (i ≤ end) × (end ≤ 24) }
-    ensures { record { state_1 = state_1.exit.now; state_2 = state_2.new; bands = bands.new } ≡ places_of (end - i) (record { g = g.entry.now; r_plus_g = r_plus_g.now; h = h.now; gain = gain.now }) (record { state_1 = state_1.entry.now; state_2 = state_2.old; bands = bands.old }) x i }
+    ensures { record { state_1 = state_1.new; state_2 = state_2.new; bands = bands.new } ≡ places_of (end - i) (record { g = g.now; r_plus_g = r_plus_g.now; h = h.now; gain = gain.now }) (record { state_1 = state_1.old; state_2 = state_2.old; bands = bands.old }) x i }
 {
     let mut j = i;
     while j < end {
@@ -556,7 +556,7 @@ fn tick_each(
     end: usize,
 )
     requires { (i ≤ end) × (end ≤ 24) }
-    ensures { record { state_1 = state_1.exit.now; state_2 = state_2.new; bands = bands.new } ≡ places_of (end - i) (record { g = g.entry.now; r_plus_g = r_plus_g.now; h = h.now; gain = gain.now }) (record { state_1 = state_1.entry.now; state_2 = state_2.old; bands = bands.old }) x i }
+    ensures { record { state_1 = state_1.new; state_2 = state_2.new; bands = bands.new } ≡ places_of (end - i) (record { g = g.now; r_plus_g = r_plus_g.now; h = h.now; gain = gain.now }) (record { state_1 = state_1.old; state_2 = state_2.old; bands = bands.old }) x i }
 {
     let mut j = i;
     while j < end {
@@ -601,7 +601,7 @@ fn tick_untested(
     bands: &mut [f32; 24],
     x: f32,
 )
-    ensures { record { state_1 = state_1.exit.now; state_2 = state_2.new; bands = bands.new } ≡ places_of (plain_of low) (record { g = g.entry.now; r_plus_g = r_plus_g.now; h = h.now; gain = gain.now }) (record { state_1 = state_1.entry.now; state_2 = state_2.old; bands = bands.old }) x 0 }
+    ensures { record { state_1 = state_1.new; state_2 = state_2.new; bands = bands.new } ≡ places_of (plain_of low) (record { g = g.now; r_plus_g = r_plus_g.now; h = h.now; gain = gain.now }) (record { state_1 = state_1.old; state_2 = state_2.old; bands = bands.old }) x 0 }
 {
     if low {
         return;
@@ -622,7 +622,7 @@ fn tick_tested(
     x: f32,
 )
     requires { (length state_1.old ≡ 24) × (length state_2.old ≡ 24) × (length bands.old ≡ 24) }
-    ensures { record { state_1 = state_1.exit.now; state_2 = state_2.new; bands = bands.new } ≡ bands_of (record { g = g.entry.now; r_plus_g = r_plus_g.now; h = h.now; gain = gain.now }) state_1.entry.now state_2.old x }
+    ensures { record { state_1 = state_1.new; state_2 = state_2.new; bands = bands.new } ≡ bands_of (record { g = g.now; r_plus_g = r_plus_g.now; h = h.now; gain = gain.now }) state_1.old state_2.old x }
 {
     tick_untested(low, g, r_plus_g, h, gain, state_1, state_2, bands, x);
     tick_each(
@@ -651,7 +651,7 @@ pub fn frame_loud(
     y: f32,
 ) -> f32
     requires { (length state_1.old ≡ 24) × (length state_2.old ≡ 24) }
-    ensures { ((state_1.new, state_2.new), result) ≡ frame_of (record { g = g.entry.now; r_plus_g = r_plus_g.now; h = h.now; gain = gain.now }) (state_1.old, state_2.old) x y }
+    ensures { ((state_1.new, state_2.new), result) ≡ frame_of (record { g = g.now; r_plus_g = r_plus_g.now; h = h.now; gain = gain.now }) (state_1.old, state_2.old) x y }
 {
     let mut bands = [0.0f32; 24];
     tick_all(g, r_plus_g, h, gain, state_1, state_2, &mut bands, x);
@@ -671,7 +671,7 @@ fn frame_quiet(
     y: f32,
 ) -> f32
     requires { (length state_1.old ≡ 24) × (length state_2.old ≡ 24) }
-    ensures { ((state_1.new, state_2.new), result) ≡ frame_of (record { g = g.entry.now; r_plus_g = r_plus_g.now; h = h.now; gain = gain.now }) (state_1.old, state_2.old) x y }
+    ensures { ((state_1.new, state_2.new), result) ≡ frame_of (record { g = g.now; r_plus_g = r_plus_g.now; h = h.now; gain = gain.now }) (state_1.old, state_2.old) x y }
 {
     let mut bands = [0.0f32; 24];
     tick_tested(low, g, r_plus_g, h, gain, state_1, state_2, &mut bands, x);
@@ -691,7 +691,7 @@ pub fn frame(
     y: f32,
 ) -> f32
     requires { (length state_1.old ≡ 24) × (length state_2.old ≡ 24) }
-    ensures { ((state_1.new, state_2.new), result) ≡ frame_of (record { g = g.entry.now; r_plus_g = r_plus_g.now; h = h.now; gain = gain.now }) (state_1.old, state_2.old) x y }
+    ensures { ((state_1.new, state_2.new), result) ≡ frame_of (record { g = g.now; r_plus_g = r_plus_g.now; h = h.now; gain = gain.now }) (state_1.old, state_2.old) x y }
 {
     if quiet.low | quiet.high {
         return frame_quiet(quiet.low, g, r_plus_g, h, gain, state_1, state_2, x, y);

@@ -20,7 +20,7 @@ use Rattle.slot_bytes.specs.Words.{word_of, words, bytes, put_words, each}
 use Rattle.slots.specs.declared.slots.Slot.{Slot}
 use Rattle.ground.proofs.Bools as bools
 use Rattle.ground.specs.Each.{Each}
-use Rattle.slot_bytes.specs.Layout.{F32, BatchF32, ModalF32, All, bits, float_in, floats_in, has_no_nan, mode_in, batch_in, modal_in, slot_in, decode_slot, float_words, mode_words, batch_words, voice_words, modal_words, slot_words, flag_of, encode_slot}
+use Rattle.slot_bytes.specs.Layout.{F32, BatchF32, ModalF32, bits, float_in, floats_in, has_no_nan, mode_in, batch_in, modal_in, slot_in, decode_slot, float_words, mode_words, batch_words, voice_words, modal_words, slot_words, flag_of, encode_slot}
 use Rattle.slot_bytes.proofs.Little.{stored, bytes_append, length_bytes, whole_wrote, length_voice, length_modal, Written, written_begin, written_turn, written_end}
 
 -- ---- a word

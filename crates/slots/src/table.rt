@@ -68,7 +68,7 @@ fn known_kind(kind: u32) -> bool
 
 // Whether four buffers of these lengths do not differ.
 fn alike(temp: &[f32], temp_2: &[f32], out: &[f32], aux: &[f32]) -> bool
-    ensures { result ≡ alike (record { temp = temp.entry.now; temp2 = temp_2.now; out = out.now; aux = aux.now }) }
+    ensures { result ≡ alike (record { temp = temp.now; temp2 = temp_2.now; out = out.now; aux = aux.now }) }
 {
     let n = temp.len();
     if temp_2.len() != n {
@@ -151,7 +151,7 @@ pub fn check_render(
 ) -> Verdict
     ensures { result ≡ verdict bad kind (record {
       slot = slot;
-      act = render k (record { temp = temp.entry.now; temp2 = temp_2.now; out = out.now; aux = aux.now });
+      act = render k (record { temp = temp.now; temp2 = temp_2.now; out = out.now; aux = aux.now });
     }) }
 {
     if bad {

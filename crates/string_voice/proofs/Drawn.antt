@@ -3,18 +3,17 @@ use mathlib.Core.Path.{◌≡◌, refl, ◌∙◌, ap, subst, subst⁻¹}
 use mathlib.Core.Bool.{Bool, true, false, ◌||◌, cond}
 use mathlib.Core.List.{List}
 use Prim.Native.Nat.{ℕ, ◌+◌, ◌-◌, ◌≤◌, min}
-use native.Mathlib.Nat.{zero-add, add-zero, le_trans, sub-le}
+use native.Mathlib.Nat.{le_trans, sub-le}
 use native.Mathlib.Omega.{arith}
-use lib.ListN.{length, take, length-take, length-replicate}
+use lib.ListN.{length}
 use lib.Ieee.{Float}
-use Rattle.ground.specs.F32.{◌⊘◌, c0, c0·5, c1}
-use Rattle.ground.specs.Frames.{frames}
+use Rattle.ground.specs.F32.{◌⊘◌, c0·5, c1}
 use Rattle.ground.specs.Floats.{whole_part}
 use Rattle.utils.specs.Filter.{svf_step, svf_setFQ}
 use Rattle.utils.specs.declared.filter.FrequencyApproximation.TheVariants.{Dirty}
 use Rattle.ground.specs.Draw.{ret, counted, ◌>>=◌}
 use Rattle.ground.proofs.Draw.{Draws, draws_bind, draws_then, counted_draws}
-use Rattle.ground.proofs.Frames.{Any, after, drawn, frames_draws_each, length_scan}
+use Rattle.ground.proofs.Frames.{after, drawn, length_scan}
 use Rattle.noise.specs.declared.excitation.Counts.{Counts}
 use Rattle.noise.specs.Excitation.{raised, add_step}
 use Rattle.noise.proofs.Ranges.{Fundamental}

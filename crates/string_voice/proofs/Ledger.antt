@@ -2,9 +2,9 @@
 use mathlib.Core.Path.{◌≡◌, refl}
 use mathlib.Core.Bool.{Bool, true, false}
 use mathlib.Core.List.{List, [], ◌∷◌}
-use Prim.Native.Nat.{ℕ, zero, suc, ◌+◌}
+use Prim.Native.Nat.{ℕ, zero, suc}
 use lib.IntN.{negsuc}
-use lib.Ieee.{Float, fin, binary32, of_bits, of_int, add, sub, mul, div, lt, le, neg, to_unsigned}
+use lib.Ieee.{Float, fin, of_bits, add, sub, mul, div, lt, le, to_unsigned}
 use Rattle.ground.specs.F32.{◌⊕◌, c0, c0·5, c1}
 use Rattle.ground.specs.Floats.{whole_part, clamp_f}
 use Rattle.noise.specs.declared.excitation.Knobs.{Knobs}
@@ -13,7 +13,7 @@ use Rattle.waveguide.specs.String.{string_init, delay_of, ratio_of, non_linearit
 use Rattle.string_voice.specs.StringVoice.{voice_new, voice_init, struck, amount}
 use Rattle.waveguide.proofs.Steps.{wrap}
 use Rattle.waveguide.proofs.Blocks.{ratio_for}
-use Rattle.string_voice.proofs.Drawn.{burst_words, dust_words, dispersion_words, left_at, left_after}
+use Rattle.string_voice.proofs.Drawn.{burst_words, dispersion_words, left_at, left_after}
 
 -- 1/2048
 abbrev f0 : Float

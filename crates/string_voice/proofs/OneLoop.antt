@@ -1,5 +1,5 @@
 -- One loop over the frames is the excitation filter, then aux, then the string: laws over plain values. Assumes nothing.
-use mathlib.Core.Path.{◌≡◌, refl, sym, ◌∙◌, ap}
+use mathlib.Core.Path.{◌≡◌, sym, ◌∙◌, ap}
 use mathlib.Core.Bool.{Bool, false, cond}
 use mathlib.Core.List.{List}
 use Prim.Native.Nat.{ℕ, ◌-◌, ◌≤◌, ◌<◌, ◌^◌, min}
@@ -8,7 +8,7 @@ use lib.ListN.{length, get_or}
 use lib.Ieee.{Float, nan}
 use Rattle.ground.specs.F32.{c0}
 use Rattle.ground.specs.Draw.{Draw, Ran, run, counted}
-use Rattle.ground.specs.Frames.{frames, scan}
+use Rattle.ground.specs.Frames.{frames}
 use Rattle.ground.proofs.Draw.{run_bind, run_then}
 use Rattle.utils.specs.declared.filter.Svf.{Svf}
 use Rattle.utils.specs.declared.filter.Passed.{Passed}

@@ -1,9 +1,9 @@
 -- string_voice.rs: excitation -> filter -> string. A render is its two halves in order: `excite_of`, then `sound_of`. Assumes nothing.
-use Rattle.std.specs.Prelude.{Bool, true, false, ◌||◌, cond, List, ℕ, ◌-◌, ◌≤◌, min, length, take, Float}
+use Rattle.std.specs.Prelude.{Bool, true, false, ◌||◌, cond, List, ℕ, ◌-◌, min, length, take, Float}
 use Rattle.std.specs.Float.Ieee.{lt}
 use Rattle.ground.specs.F32.{◌⊖◌, ◌⊗◌, ◌⊘◌, c0, c0·24, c0·26, c0·499, c0·5, c1, c1·35135, c2, c4, c4·166, c6, c8, c72}
 use Rattle.ground.specs.Draw.{Draw, ret, ask, counted, ◌>>=◌}
-use Rattle.ground.specs.Frames.{frames, scan}
+use Rattle.ground.specs.Frames.{frames}
 use Rattle.ground.specs.Floats.{whole_part, min_f}
 use Rattle.ground.specs.Random.{noise_of}
 use Rattle.utils.specs.Units.{semitones_to_ratio}
@@ -13,7 +13,7 @@ use Rattle.noise.specs.declared.excitation.Knobs.{Knobs}
 use Rattle.noise.specs.declared.excitation.Counts.{Counts}
 use Rattle.noise.specs.Excitation.{raised, dust_frequency, dusted, silence, added}
 use Rattle.string_voice.specs.declared.string_voice.StringVoice.{StringVoice}
-use Rattle.waveguide.specs.String.{string_new, string_init, string_reset, init_of, reset_of, non_linearity, strung}
+use Rattle.waveguide.specs.String.{string_new, init_of, reset_of, non_linearity, strung}
 
 -- ---- StringVoice::new, init and reset: the voice, and its lines
 

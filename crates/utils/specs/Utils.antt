@@ -1,5 +1,5 @@
 -- utils/mod.rs. Assumes nothing.
-use Rattle.std.specs.Prelude.{cond, ℕ, ◌+◌, leb, Float}
+use Rattle.std.specs.Prelude.{cond, ◌+◌, leb, Float}
 use Rattle.resources.specs.Table.{entry}
 use Rattle.resources.specs.Stiffness.{stiffness}
 use Rattle.ground.specs.F32.{◌⊕◌, ◌⊖◌, ◌⊗◌, c0, c1, c2, c64}

@@ -1,7 +1,7 @@
 -- The values that 01, 'Values to reach', marks and that concern the functions of this crate, each by computation. `fin s m e` is m * 2 ^ e, negative
 -- where s is true, and `negsuc k` is -(k + 1). Assumes nothing.
 use Rattle.std.specs.Prelude.{◌≡◌, refl, true, false, List, ℕ, replicate, pos, negsuc, Float}
-use Rattle.std.specs.Float.{nan, fin, binary32}
+use Rattle.std.specs.Float.{nan, fin}
 use Rattle.std.specs.Float.Ieee.{of_bits, of_int, add, sub, mul, div, neg, lt, le, to_unsigned}
 use Rattle.resources.specs.Stiffness.{stiffness}
 use Rattle.resources.specs.Pitch.{pitch_ratio_high, pitch_ratio_low}

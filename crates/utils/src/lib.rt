@@ -1,4 +1,6 @@
 // utils/mod.rs: what the devices share.
+#![tactic(auto)]
+
 ghost use Rattle.std.specs.Prelude.{◌≡◌, min};
 ghost use Rattle.utils.specs.Utils.{interpolate_of, one_pole, crossfade_of};
 

@@ -1,4 +1,6 @@
 // Blocks of each voice, one after the other.
+#![tactic(auto)]
+
 ghost use Rattle.std.specs.Prelude.{◌≡◌};
 ghost use Rattle.ground.specs.Draw.{run, Ran};
 ghost use Rattle.voices_abi.specs.Blocks.{alike_sizes};

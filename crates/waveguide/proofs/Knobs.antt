@@ -1,6 +1,6 @@
 -- What the calls that take a block's knobs ensure, put together: laws over plain values. Assumes nothing.
 use mathlib.Core.Path.{◌≡◌}
-use mathlib.Core.Bool.{true, false, cond}
+use mathlib.Core.Bool.{true, false}
 use Prim.Native.Nat.{ℕ, ◌+◌}
 use lib.Ieee.{Float, neg, le}
 use Rattle.resources.specs.Table.{entry}

@@ -1,6 +1,5 @@
 -- string.rs: a string's state beside its lines, the string line of 1,024 numbers and the stretch line of 256 behind it. Assumes nothing.
-use Rattle.std.specs.Prelude.{◌≡◌, Bool, false, cond, ◌&&◌, List, ℕ, ◌+◌, ◌<◌, length, replicate, Float}
-use Rattle.std.specs.Float.{binary32}
+use Rattle.std.specs.Prelude.{◌≡◌, Bool, false, cond, ◌&&◌, List, ℕ, ◌+◌, ◌<◌, length, Float}
 use Rattle.std.specs.Float.Ieee.{lt, le, neg}
 use Rattle.resources.specs.Table.{entry}
 use Rattle.resources.specs.Svf.{svf_shift}

@@ -1,2 +1,4 @@
 // The string as a digital waveguide.
+#![tactic(auto)]
+
 pub mod string;

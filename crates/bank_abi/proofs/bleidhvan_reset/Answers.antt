@@ -1,0 +1,38 @@
+-- `bleidhvan_reset` meets its contract: the table decides.
+use mathlib.Core.Path.{refl, sym}
+use Rattle.slots.specs.Slots.{slot_at}
+use Rattle.slots.specs.Calls.{reset}
+use Rattle.slot_bytes.specs.Layout.{decode_bank}
+use Rattle.bank_abi.proofs.Crosses.{decided, taken, refused, wrote, accepted}
+use Rattle.bank_abi.proofs.bleidhvan_reset.Goals as goal
+
+pub string_nth-voice-requires : goal.string_nth-voice-requires
+string_nth-voice-requires c =
+    let a = c.args in
+    let t = taken a.bytes.now a.lines.now (record { slot = a.slot; act = reset }) (decided a.bytes.now a.lines.now (record { slot = a.slot; act = reset }) c.check_reset-verdict.ensures c.bad-bad.ensures c.kind_at-kind.ensures c.in-Accepted.is) in
+    (t.slot_within, t.size)
+
+pub reset_string-after-requires : goal.reset_string-after-requires
+reset_string-after-requires c =
+    let a = c.args in
+    let t = taken a.bytes.now a.lines.now (record { slot = a.slot; act = reset }) (decided a.bytes.now a.lines.now (record { slot = a.slot; act = reset }) c.check_reset-verdict.ensures c.bad-bad.ensures c.kind_at-kind.ensures c.in-Accepted.is) in
+    (t.slot_within, t.lines)
+
+pub put_string_nth-requires : goal.put_string_nth-requires
+put_string_nth-requires c =
+    let a = c.args in
+    let t = taken a.bytes.now a.lines.now (record { slot = a.slot; act = reset }) (decided a.bytes.now a.lines.now (record { slot = a.slot; act = reset }) c.check_reset-verdict.ensures c.bad-bad.ensures c.kind_at-kind.ensures c.in-Accepted.is) in
+    (t.slot_within, t.size)
+
+pub returns-in-Refused : goal.returns-in-Refused
+returns-in-Refused c = λ w.
+    let a = c.args in
+    refused (record { bytes = a.bytes.now; word = w; mem = a.lines.now }) (record { slot = a.slot; act = reset }) c.in-Refused.reason c.reason_number.ensures (decided a.bytes.now a.lines.now (record { slot = a.slot; act = reset }) c.check_reset-verdict.ensures c.bad-bad.ensures c.kind_at-kind.ensures c.in-Refused.is)
+
+pub returns-in-Accepted : goal.returns-in-Accepted
+returns-in-Accepted c = λ w.
+    let a = c.args in
+    let x = slot_at (decode_bank a.bytes.now) a.slot in
+    let p = c.put_string_nth.ensures in
+    accepted (record { bytes = a.bytes.now; word = w; mem = a.lines.now }) (record { slot = a.slot; act = reset }) _ (decided a.bytes.now a.lines.now (record { slot = a.slot; act = reset }) c.check_reset-verdict.ensures c.bad-bad.ensures c.kind_at-kind.ensures c.in-Accepted.is) tt
+    (wrote (record { bytes = a.bytes.now; word = w; mem = a.lines.now }) (record { slot = a.slot; act = reset }) x _ _ refl (c.reset_string-after.ensures x w (sym c.string_nth-voice.ensures)) p.0 p.1)

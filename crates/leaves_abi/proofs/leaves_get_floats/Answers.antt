@@ -1,0 +1,25 @@
+-- `leaves_get_floats` meets its contract, by the law of loops over frames: a word a frame.
+-- a turn draws the next word and puts its float
+use mathlib.Core.Path.{◌≡◌}
+use Prim.Native.Nat.{ℕ}
+use native.Mathlib.Omega.{arith}
+use lib.Ieee.{Float, nan}
+use Rattle.ground.specs.Draw.{ret, next, run}
+use Rattle.ground.specs.Random.{float_of}
+use Rattle.ground.proofs.Frames.{frames_begin, frames_turn, frames_then}
+use Rattle.leaves_abi.specs.Leaves.{float_step}
+use Rattle.leaves_abi.proofs.leaves_get_floats.Goals as goal
+
+drew : (w v : ℕ) (u y x : Float) → v ≡ next w → u ≡ float_of v → run (float_step tt x y) w ≡ record { value = (tt, u); word = v }
+drew w v u y x e f = rw (f, e)
+
+pub loop-i-init : goal.loop-i-init
+loop-i-init c = frames_begin
+
+pub loop-i-preserved : goal.loop-i-preserved
+loop-i-preserved c =
+    frames_turn nan nan c.loop-i.invariant (omega arith)
+    (drew _ _ _ nan nan c.get_word-drawn.ensures c.get_float.ensures)
+
+pub returns : goal.returns
+returns c = frames_then (λ q. ret q.1) c.loop-i.invariant (omega arith)

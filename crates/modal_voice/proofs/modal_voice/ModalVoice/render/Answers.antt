@@ -1,0 +1,16 @@
+-- `modal_voice::ModalVoice::render` meets its contract: one loop is its two halves in order.
+use native.Mathlib.Omega.{arith}
+use Rattle.modes.proofs.OnePass.{mapped_length}
+use Rattle.modal_voice.proofs.OneLoop.{together}
+use borrow.Author.Rules.{rules}
+use Rattle.modal_voice.proofs.modal_voice.ModalVoice.render.Goals as goal
+
+pub sound_frames-s-requires : goal.sound_frames-s-requires
+sound_frames-s-requires c =
+    let p = c.requires in
+    record { temp2_is = omega (arith, p.temp2_is); out_is = omega (arith, p.out_is); aux_is = omega (arith, p.aux_is) }
+
+pub returns : goal.returns
+returns c =
+    let a = c.args in
+    together a.k a.self a.temp.now a.temp_2.now a.out.now a.aux.now a.word (search (mapped_length, rules, c)) c.cutoff_for-cutoff.ensures c.resonance-q.ensures c.held_after-held.ensures c.fill_excitation-drawn.ensures c.mode_of-mode.ensures c.raise-brightness.ensures c.raise-damping.ensures c.modes_for-modes.ensures c.sound_frames-s.ensures c.counts_of-counts.ensures

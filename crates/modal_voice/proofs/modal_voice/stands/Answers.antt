@@ -1,0 +1,11 @@
+-- `modal_voice::stands` meets its contract.
+use mathlib.Core.Bool.{false≢true}
+use Rattle.modal_voice.proofs.modal_voice.stands.Goals as goal
+
+pub returns-then-same : goal.returns-then-same
+returns-then-same c =
+    let e1 = c.same.ensures.1 c.if-same.true in
+    (rw (← c.same.ensures.0, c.if-same.true) c.same-then-same.ensures.0, λ e. (e1, c.same-then-same.ensures.1 e))
+
+pub returns : goal.returns
+returns c = (rw (← c.same.ensures.0, c.if-same.false), λ e. absurd (false≢true e))

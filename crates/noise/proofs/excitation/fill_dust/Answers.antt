@@ -1,0 +1,21 @@
+-- `excitation::fill_dust` meets its contract, by the law of loops over frames: a word a frame.
+use native.Mathlib.Omega.{arith}
+use lib.Ieee.{nan}
+use Rattle.ground.specs.Draw.{ret}
+use Rattle.ground.proofs.Draw.{run_then}
+use Rattle.ground.proofs.Frames.{frames_begin, frames_turn, frames_then}
+use Rattle.noise.specs.Dust.{dust_of}
+use Rattle.noise.specs.Excitation.{dusted}
+use Rattle.noise.proofs.excitation.fill_dust.Goals as goal
+
+pub loop-i-init : goal.loop-i-init
+loop-i-init c = frames_begin
+
+pub loop-i-preserved : goal.loop-i-preserved
+loop-i-preserved c =
+    let l = c.loop-i in
+    frames_turn nan nan l.invariant (omega arith) (run_then (dust_of c.args.f) _ l.w c.dust-d.ensures)
+
+pub returns : goal.returns
+unfolding dusted
+returns c = frames_then (λ q. ret q.1) c.loop-i.invariant (omega arith)

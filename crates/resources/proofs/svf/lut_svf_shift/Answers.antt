@@ -1,0 +1,1037 @@
+-- `resources::svf::lut_svf_shift` meets its contract: each arm has its entry, and behind the arms the table has ended.
+-- Written by tools/tables. Assumes nothing.
+use Rattle.resources.specs.Svf.{svf_shift}
+use Rattle.resources.proofs.Arms.{arm, past}
+use Rattle.resources.proofs.svf.lut_svf_shift.Goals as goal
+
+pub returns-in-0 : goal.returns-in-0
+unfolding svf_shift
+returns-in-0 c = arm svf_shift 0 c.in-0.is
+
+pub returns-in-1 : goal.returns-in-1
+unfolding svf_shift
+returns-in-1 c = arm svf_shift 1 c.in-1.is
+
+pub returns-in-2 : goal.returns-in-2
+unfolding svf_shift
+returns-in-2 c = arm svf_shift 2 c.in-2.is
+
+pub returns-in-3 : goal.returns-in-3
+unfolding svf_shift
+returns-in-3 c = arm svf_shift 3 c.in-3.is
+
+pub returns-in-4 : goal.returns-in-4
+unfolding svf_shift
+returns-in-4 c = arm svf_shift 4 c.in-4.is
+
+pub returns-in-5 : goal.returns-in-5
+unfolding svf_shift
+returns-in-5 c = arm svf_shift 5 c.in-5.is
+
+pub returns-in-6 : goal.returns-in-6
+unfolding svf_shift
+returns-in-6 c = arm svf_shift 6 c.in-6.is
+
+pub returns-in-7 : goal.returns-in-7
+unfolding svf_shift
+returns-in-7 c = arm svf_shift 7 c.in-7.is
+
+pub returns-in-8 : goal.returns-in-8
+unfolding svf_shift
+returns-in-8 c = arm svf_shift 8 c.in-8.is
+
+pub returns-in-9 : goal.returns-in-9
+unfolding svf_shift
+returns-in-9 c = arm svf_shift 9 c.in-9.is
+
+pub returns-in-10 : goal.returns-in-10
+unfolding svf_shift
+returns-in-10 c = arm svf_shift 10 c.in-10.is
+
+pub returns-in-11 : goal.returns-in-11
+unfolding svf_shift
+returns-in-11 c = arm svf_shift 11 c.in-11.is
+
+pub returns-in-12 : goal.returns-in-12
+unfolding svf_shift
+returns-in-12 c = arm svf_shift 12 c.in-12.is
+
+pub returns-in-13 : goal.returns-in-13
+unfolding svf_shift
+returns-in-13 c = arm svf_shift 13 c.in-13.is
+
+pub returns-in-14 : goal.returns-in-14
+unfolding svf_shift
+returns-in-14 c = arm svf_shift 14 c.in-14.is
+
+pub returns-in-15 : goal.returns-in-15
+unfolding svf_shift
+returns-in-15 c = arm svf_shift 15 c.in-15.is
+
+pub returns-in-16 : goal.returns-in-16
+unfolding svf_shift
+returns-in-16 c = arm svf_shift 16 c.in-16.is
+
+pub returns-in-17 : goal.returns-in-17
+unfolding svf_shift
+returns-in-17 c = arm svf_shift 17 c.in-17.is
+
+pub returns-in-18 : goal.returns-in-18
+unfolding svf_shift
+returns-in-18 c = arm svf_shift 18 c.in-18.is
+
+pub returns-in-19 : goal.returns-in-19
+unfolding svf_shift
+returns-in-19 c = arm svf_shift 19 c.in-19.is
+
+pub returns-in-20 : goal.returns-in-20
+unfolding svf_shift
+returns-in-20 c = arm svf_shift 20 c.in-20.is
+
+pub returns-in-21 : goal.returns-in-21
+unfolding svf_shift
+returns-in-21 c = arm svf_shift 21 c.in-21.is
+
+pub returns-in-22 : goal.returns-in-22
+unfolding svf_shift
+returns-in-22 c = arm svf_shift 22 c.in-22.is
+
+pub returns-in-23 : goal.returns-in-23
+unfolding svf_shift
+returns-in-23 c = arm svf_shift 23 c.in-23.is
+
+pub returns-in-24 : goal.returns-in-24
+unfolding svf_shift
+returns-in-24 c = arm svf_shift 24 c.in-24.is
+
+pub returns-in-25 : goal.returns-in-25
+unfolding svf_shift
+returns-in-25 c = arm svf_shift 25 c.in-25.is
+
+pub returns-in-26 : goal.returns-in-26
+unfolding svf_shift
+returns-in-26 c = arm svf_shift 26 c.in-26.is
+
+pub returns-in-27 : goal.returns-in-27
+unfolding svf_shift
+returns-in-27 c = arm svf_shift 27 c.in-27.is
+
+pub returns-in-28 : goal.returns-in-28
+unfolding svf_shift
+returns-in-28 c = arm svf_shift 28 c.in-28.is
+
+pub returns-in-29 : goal.returns-in-29
+unfolding svf_shift
+returns-in-29 c = arm svf_shift 29 c.in-29.is
+
+pub returns-in-30 : goal.returns-in-30
+unfolding svf_shift
+returns-in-30 c = arm svf_shift 30 c.in-30.is
+
+pub returns-in-31 : goal.returns-in-31
+unfolding svf_shift
+returns-in-31 c = arm svf_shift 31 c.in-31.is
+
+pub returns-in-32 : goal.returns-in-32
+unfolding svf_shift
+returns-in-32 c = arm svf_shift 32 c.in-32.is
+
+pub returns-in-33 : goal.returns-in-33
+unfolding svf_shift
+returns-in-33 c = arm svf_shift 33 c.in-33.is
+
+pub returns-in-34 : goal.returns-in-34
+unfolding svf_shift
+returns-in-34 c = arm svf_shift 34 c.in-34.is
+
+pub returns-in-35 : goal.returns-in-35
+unfolding svf_shift
+returns-in-35 c = arm svf_shift 35 c.in-35.is
+
+pub returns-in-36 : goal.returns-in-36
+unfolding svf_shift
+returns-in-36 c = arm svf_shift 36 c.in-36.is
+
+pub returns-in-37 : goal.returns-in-37
+unfolding svf_shift
+returns-in-37 c = arm svf_shift 37 c.in-37.is
+
+pub returns-in-38 : goal.returns-in-38
+unfolding svf_shift
+returns-in-38 c = arm svf_shift 38 c.in-38.is
+
+pub returns-in-39 : goal.returns-in-39
+unfolding svf_shift
+returns-in-39 c = arm svf_shift 39 c.in-39.is
+
+pub returns-in-40 : goal.returns-in-40
+unfolding svf_shift
+returns-in-40 c = arm svf_shift 40 c.in-40.is
+
+pub returns-in-41 : goal.returns-in-41
+unfolding svf_shift
+returns-in-41 c = arm svf_shift 41 c.in-41.is
+
+pub returns-in-42 : goal.returns-in-42
+unfolding svf_shift
+returns-in-42 c = arm svf_shift 42 c.in-42.is
+
+pub returns-in-43 : goal.returns-in-43
+unfolding svf_shift
+returns-in-43 c = arm svf_shift 43 c.in-43.is
+
+pub returns-in-44 : goal.returns-in-44
+unfolding svf_shift
+returns-in-44 c = arm svf_shift 44 c.in-44.is
+
+pub returns-in-45 : goal.returns-in-45
+unfolding svf_shift
+returns-in-45 c = arm svf_shift 45 c.in-45.is
+
+pub returns-in-46 : goal.returns-in-46
+unfolding svf_shift
+returns-in-46 c = arm svf_shift 46 c.in-46.is
+
+pub returns-in-47 : goal.returns-in-47
+unfolding svf_shift
+returns-in-47 c = arm svf_shift 47 c.in-47.is
+
+pub returns-in-48 : goal.returns-in-48
+unfolding svf_shift
+returns-in-48 c = arm svf_shift 48 c.in-48.is
+
+pub returns-in-49 : goal.returns-in-49
+unfolding svf_shift
+returns-in-49 c = arm svf_shift 49 c.in-49.is
+
+pub returns-in-50 : goal.returns-in-50
+unfolding svf_shift
+returns-in-50 c = arm svf_shift 50 c.in-50.is
+
+pub returns-in-51 : goal.returns-in-51
+unfolding svf_shift
+returns-in-51 c = arm svf_shift 51 c.in-51.is
+
+pub returns-in-52 : goal.returns-in-52
+unfolding svf_shift
+returns-in-52 c = arm svf_shift 52 c.in-52.is
+
+pub returns-in-53 : goal.returns-in-53
+unfolding svf_shift
+returns-in-53 c = arm svf_shift 53 c.in-53.is
+
+pub returns-in-54 : goal.returns-in-54
+unfolding svf_shift
+returns-in-54 c = arm svf_shift 54 c.in-54.is
+
+pub returns-in-55 : goal.returns-in-55
+unfolding svf_shift
+returns-in-55 c = arm svf_shift 55 c.in-55.is
+
+pub returns-in-56 : goal.returns-in-56
+unfolding svf_shift
+returns-in-56 c = arm svf_shift 56 c.in-56.is
+
+pub returns-in-57 : goal.returns-in-57
+unfolding svf_shift
+returns-in-57 c = arm svf_shift 57 c.in-57.is
+
+pub returns-in-58 : goal.returns-in-58
+unfolding svf_shift
+returns-in-58 c = arm svf_shift 58 c.in-58.is
+
+pub returns-in-59 : goal.returns-in-59
+unfolding svf_shift
+returns-in-59 c = arm svf_shift 59 c.in-59.is
+
+pub returns-in-60 : goal.returns-in-60
+unfolding svf_shift
+returns-in-60 c = arm svf_shift 60 c.in-60.is
+
+pub returns-in-61 : goal.returns-in-61
+unfolding svf_shift
+returns-in-61 c = arm svf_shift 61 c.in-61.is
+
+pub returns-in-62 : goal.returns-in-62
+unfolding svf_shift
+returns-in-62 c = arm svf_shift 62 c.in-62.is
+
+pub returns-in-63 : goal.returns-in-63
+unfolding svf_shift
+returns-in-63 c = arm svf_shift 63 c.in-63.is
+
+pub returns-in-64 : goal.returns-in-64
+unfolding svf_shift
+returns-in-64 c = arm svf_shift 64 c.in-64.is
+
+pub returns-in-65 : goal.returns-in-65
+unfolding svf_shift
+returns-in-65 c = arm svf_shift 65 c.in-65.is
+
+pub returns-in-66 : goal.returns-in-66
+unfolding svf_shift
+returns-in-66 c = arm svf_shift 66 c.in-66.is
+
+pub returns-in-67 : goal.returns-in-67
+unfolding svf_shift
+returns-in-67 c = arm svf_shift 67 c.in-67.is
+
+pub returns-in-68 : goal.returns-in-68
+unfolding svf_shift
+returns-in-68 c = arm svf_shift 68 c.in-68.is
+
+pub returns-in-69 : goal.returns-in-69
+unfolding svf_shift
+returns-in-69 c = arm svf_shift 69 c.in-69.is
+
+pub returns-in-70 : goal.returns-in-70
+unfolding svf_shift
+returns-in-70 c = arm svf_shift 70 c.in-70.is
+
+pub returns-in-71 : goal.returns-in-71
+unfolding svf_shift
+returns-in-71 c = arm svf_shift 71 c.in-71.is
+
+pub returns-in-72 : goal.returns-in-72
+unfolding svf_shift
+returns-in-72 c = arm svf_shift 72 c.in-72.is
+
+pub returns-in-73 : goal.returns-in-73
+unfolding svf_shift
+returns-in-73 c = arm svf_shift 73 c.in-73.is
+
+pub returns-in-74 : goal.returns-in-74
+unfolding svf_shift
+returns-in-74 c = arm svf_shift 74 c.in-74.is
+
+pub returns-in-75 : goal.returns-in-75
+unfolding svf_shift
+returns-in-75 c = arm svf_shift 75 c.in-75.is
+
+pub returns-in-76 : goal.returns-in-76
+unfolding svf_shift
+returns-in-76 c = arm svf_shift 76 c.in-76.is
+
+pub returns-in-77 : goal.returns-in-77
+unfolding svf_shift
+returns-in-77 c = arm svf_shift 77 c.in-77.is
+
+pub returns-in-78 : goal.returns-in-78
+unfolding svf_shift
+returns-in-78 c = arm svf_shift 78 c.in-78.is
+
+pub returns-in-79 : goal.returns-in-79
+unfolding svf_shift
+returns-in-79 c = arm svf_shift 79 c.in-79.is
+
+pub returns-in-80 : goal.returns-in-80
+unfolding svf_shift
+returns-in-80 c = arm svf_shift 80 c.in-80.is
+
+pub returns-in-81 : goal.returns-in-81
+unfolding svf_shift
+returns-in-81 c = arm svf_shift 81 c.in-81.is
+
+pub returns-in-82 : goal.returns-in-82
+unfolding svf_shift
+returns-in-82 c = arm svf_shift 82 c.in-82.is
+
+pub returns-in-83 : goal.returns-in-83
+unfolding svf_shift
+returns-in-83 c = arm svf_shift 83 c.in-83.is
+
+pub returns-in-84 : goal.returns-in-84
+unfolding svf_shift
+returns-in-84 c = arm svf_shift 84 c.in-84.is
+
+pub returns-in-85 : goal.returns-in-85
+unfolding svf_shift
+returns-in-85 c = arm svf_shift 85 c.in-85.is
+
+pub returns-in-86 : goal.returns-in-86
+unfolding svf_shift
+returns-in-86 c = arm svf_shift 86 c.in-86.is
+
+pub returns-in-87 : goal.returns-in-87
+unfolding svf_shift
+returns-in-87 c = arm svf_shift 87 c.in-87.is
+
+pub returns-in-88 : goal.returns-in-88
+unfolding svf_shift
+returns-in-88 c = arm svf_shift 88 c.in-88.is
+
+pub returns-in-89 : goal.returns-in-89
+unfolding svf_shift
+returns-in-89 c = arm svf_shift 89 c.in-89.is
+
+pub returns-in-90 : goal.returns-in-90
+unfolding svf_shift
+returns-in-90 c = arm svf_shift 90 c.in-90.is
+
+pub returns-in-91 : goal.returns-in-91
+unfolding svf_shift
+returns-in-91 c = arm svf_shift 91 c.in-91.is
+
+pub returns-in-92 : goal.returns-in-92
+unfolding svf_shift
+returns-in-92 c = arm svf_shift 92 c.in-92.is
+
+pub returns-in-93 : goal.returns-in-93
+unfolding svf_shift
+returns-in-93 c = arm svf_shift 93 c.in-93.is
+
+pub returns-in-94 : goal.returns-in-94
+unfolding svf_shift
+returns-in-94 c = arm svf_shift 94 c.in-94.is
+
+pub returns-in-95 : goal.returns-in-95
+unfolding svf_shift
+returns-in-95 c = arm svf_shift 95 c.in-95.is
+
+pub returns-in-96 : goal.returns-in-96
+unfolding svf_shift
+returns-in-96 c = arm svf_shift 96 c.in-96.is
+
+pub returns-in-97 : goal.returns-in-97
+unfolding svf_shift
+returns-in-97 c = arm svf_shift 97 c.in-97.is
+
+pub returns-in-98 : goal.returns-in-98
+unfolding svf_shift
+returns-in-98 c = arm svf_shift 98 c.in-98.is
+
+pub returns-in-99 : goal.returns-in-99
+unfolding svf_shift
+returns-in-99 c = arm svf_shift 99 c.in-99.is
+
+pub returns-in-100 : goal.returns-in-100
+unfolding svf_shift
+returns-in-100 c = arm svf_shift 100 c.in-100.is
+
+pub returns-in-101 : goal.returns-in-101
+unfolding svf_shift
+returns-in-101 c = arm svf_shift 101 c.in-101.is
+
+pub returns-in-102 : goal.returns-in-102
+unfolding svf_shift
+returns-in-102 c = arm svf_shift 102 c.in-102.is
+
+pub returns-in-103 : goal.returns-in-103
+unfolding svf_shift
+returns-in-103 c = arm svf_shift 103 c.in-103.is
+
+pub returns-in-104 : goal.returns-in-104
+unfolding svf_shift
+returns-in-104 c = arm svf_shift 104 c.in-104.is
+
+pub returns-in-105 : goal.returns-in-105
+unfolding svf_shift
+returns-in-105 c = arm svf_shift 105 c.in-105.is
+
+pub returns-in-106 : goal.returns-in-106
+unfolding svf_shift
+returns-in-106 c = arm svf_shift 106 c.in-106.is
+
+pub returns-in-107 : goal.returns-in-107
+unfolding svf_shift
+returns-in-107 c = arm svf_shift 107 c.in-107.is
+
+pub returns-in-108 : goal.returns-in-108
+unfolding svf_shift
+returns-in-108 c = arm svf_shift 108 c.in-108.is
+
+pub returns-in-109 : goal.returns-in-109
+unfolding svf_shift
+returns-in-109 c = arm svf_shift 109 c.in-109.is
+
+pub returns-in-110 : goal.returns-in-110
+unfolding svf_shift
+returns-in-110 c = arm svf_shift 110 c.in-110.is
+
+pub returns-in-111 : goal.returns-in-111
+unfolding svf_shift
+returns-in-111 c = arm svf_shift 111 c.in-111.is
+
+pub returns-in-112 : goal.returns-in-112
+unfolding svf_shift
+returns-in-112 c = arm svf_shift 112 c.in-112.is
+
+pub returns-in-113 : goal.returns-in-113
+unfolding svf_shift
+returns-in-113 c = arm svf_shift 113 c.in-113.is
+
+pub returns-in-114 : goal.returns-in-114
+unfolding svf_shift
+returns-in-114 c = arm svf_shift 114 c.in-114.is
+
+pub returns-in-115 : goal.returns-in-115
+unfolding svf_shift
+returns-in-115 c = arm svf_shift 115 c.in-115.is
+
+pub returns-in-116 : goal.returns-in-116
+unfolding svf_shift
+returns-in-116 c = arm svf_shift 116 c.in-116.is
+
+pub returns-in-117 : goal.returns-in-117
+unfolding svf_shift
+returns-in-117 c = arm svf_shift 117 c.in-117.is
+
+pub returns-in-118 : goal.returns-in-118
+unfolding svf_shift
+returns-in-118 c = arm svf_shift 118 c.in-118.is
+
+pub returns-in-119 : goal.returns-in-119
+unfolding svf_shift
+returns-in-119 c = arm svf_shift 119 c.in-119.is
+
+pub returns-in-120 : goal.returns-in-120
+unfolding svf_shift
+returns-in-120 c = arm svf_shift 120 c.in-120.is
+
+pub returns-in-121 : goal.returns-in-121
+unfolding svf_shift
+returns-in-121 c = arm svf_shift 121 c.in-121.is
+
+pub returns-in-122 : goal.returns-in-122
+unfolding svf_shift
+returns-in-122 c = arm svf_shift 122 c.in-122.is
+
+pub returns-in-123 : goal.returns-in-123
+unfolding svf_shift
+returns-in-123 c = arm svf_shift 123 c.in-123.is
+
+pub returns-in-124 : goal.returns-in-124
+unfolding svf_shift
+returns-in-124 c = arm svf_shift 124 c.in-124.is
+
+pub returns-in-125 : goal.returns-in-125
+unfolding svf_shift
+returns-in-125 c = arm svf_shift 125 c.in-125.is
+
+pub returns-in-126 : goal.returns-in-126
+unfolding svf_shift
+returns-in-126 c = arm svf_shift 126 c.in-126.is
+
+pub returns-in-127 : goal.returns-in-127
+unfolding svf_shift
+returns-in-127 c = arm svf_shift 127 c.in-127.is
+
+pub returns-in-128 : goal.returns-in-128
+unfolding svf_shift
+returns-in-128 c = arm svf_shift 128 c.in-128.is
+
+pub returns-in-129 : goal.returns-in-129
+unfolding svf_shift
+returns-in-129 c = arm svf_shift 129 c.in-129.is
+
+pub returns-in-130 : goal.returns-in-130
+unfolding svf_shift
+returns-in-130 c = arm svf_shift 130 c.in-130.is
+
+pub returns-in-131 : goal.returns-in-131
+unfolding svf_shift
+returns-in-131 c = arm svf_shift 131 c.in-131.is
+
+pub returns-in-132 : goal.returns-in-132
+unfolding svf_shift
+returns-in-132 c = arm svf_shift 132 c.in-132.is
+
+pub returns-in-133 : goal.returns-in-133
+unfolding svf_shift
+returns-in-133 c = arm svf_shift 133 c.in-133.is
+
+pub returns-in-134 : goal.returns-in-134
+unfolding svf_shift
+returns-in-134 c = arm svf_shift 134 c.in-134.is
+
+pub returns-in-135 : goal.returns-in-135
+unfolding svf_shift
+returns-in-135 c = arm svf_shift 135 c.in-135.is
+
+pub returns-in-136 : goal.returns-in-136
+unfolding svf_shift
+returns-in-136 c = arm svf_shift 136 c.in-136.is
+
+pub returns-in-137 : goal.returns-in-137
+unfolding svf_shift
+returns-in-137 c = arm svf_shift 137 c.in-137.is
+
+pub returns-in-138 : goal.returns-in-138
+unfolding svf_shift
+returns-in-138 c = arm svf_shift 138 c.in-138.is
+
+pub returns-in-139 : goal.returns-in-139
+unfolding svf_shift
+returns-in-139 c = arm svf_shift 139 c.in-139.is
+
+pub returns-in-140 : goal.returns-in-140
+unfolding svf_shift
+returns-in-140 c = arm svf_shift 140 c.in-140.is
+
+pub returns-in-141 : goal.returns-in-141
+unfolding svf_shift
+returns-in-141 c = arm svf_shift 141 c.in-141.is
+
+pub returns-in-142 : goal.returns-in-142
+unfolding svf_shift
+returns-in-142 c = arm svf_shift 142 c.in-142.is
+
+pub returns-in-143 : goal.returns-in-143
+unfolding svf_shift
+returns-in-143 c = arm svf_shift 143 c.in-143.is
+
+pub returns-in-144 : goal.returns-in-144
+unfolding svf_shift
+returns-in-144 c = arm svf_shift 144 c.in-144.is
+
+pub returns-in-145 : goal.returns-in-145
+unfolding svf_shift
+returns-in-145 c = arm svf_shift 145 c.in-145.is
+
+pub returns-in-146 : goal.returns-in-146
+unfolding svf_shift
+returns-in-146 c = arm svf_shift 146 c.in-146.is
+
+pub returns-in-147 : goal.returns-in-147
+unfolding svf_shift
+returns-in-147 c = arm svf_shift 147 c.in-147.is
+
+pub returns-in-148 : goal.returns-in-148
+unfolding svf_shift
+returns-in-148 c = arm svf_shift 148 c.in-148.is
+
+pub returns-in-149 : goal.returns-in-149
+unfolding svf_shift
+returns-in-149 c = arm svf_shift 149 c.in-149.is
+
+pub returns-in-150 : goal.returns-in-150
+unfolding svf_shift
+returns-in-150 c = arm svf_shift 150 c.in-150.is
+
+pub returns-in-151 : goal.returns-in-151
+unfolding svf_shift
+returns-in-151 c = arm svf_shift 151 c.in-151.is
+
+pub returns-in-152 : goal.returns-in-152
+unfolding svf_shift
+returns-in-152 c = arm svf_shift 152 c.in-152.is
+
+pub returns-in-153 : goal.returns-in-153
+unfolding svf_shift
+returns-in-153 c = arm svf_shift 153 c.in-153.is
+
+pub returns-in-154 : goal.returns-in-154
+unfolding svf_shift
+returns-in-154 c = arm svf_shift 154 c.in-154.is
+
+pub returns-in-155 : goal.returns-in-155
+unfolding svf_shift
+returns-in-155 c = arm svf_shift 155 c.in-155.is
+
+pub returns-in-156 : goal.returns-in-156
+unfolding svf_shift
+returns-in-156 c = arm svf_shift 156 c.in-156.is
+
+pub returns-in-157 : goal.returns-in-157
+unfolding svf_shift
+returns-in-157 c = arm svf_shift 157 c.in-157.is
+
+pub returns-in-158 : goal.returns-in-158
+unfolding svf_shift
+returns-in-158 c = arm svf_shift 158 c.in-158.is
+
+pub returns-in-159 : goal.returns-in-159
+unfolding svf_shift
+returns-in-159 c = arm svf_shift 159 c.in-159.is
+
+pub returns-in-160 : goal.returns-in-160
+unfolding svf_shift
+returns-in-160 c = arm svf_shift 160 c.in-160.is
+
+pub returns-in-161 : goal.returns-in-161
+unfolding svf_shift
+returns-in-161 c = arm svf_shift 161 c.in-161.is
+
+pub returns-in-162 : goal.returns-in-162
+unfolding svf_shift
+returns-in-162 c = arm svf_shift 162 c.in-162.is
+
+pub returns-in-163 : goal.returns-in-163
+unfolding svf_shift
+returns-in-163 c = arm svf_shift 163 c.in-163.is
+
+pub returns-in-164 : goal.returns-in-164
+unfolding svf_shift
+returns-in-164 c = arm svf_shift 164 c.in-164.is
+
+pub returns-in-165 : goal.returns-in-165
+unfolding svf_shift
+returns-in-165 c = arm svf_shift 165 c.in-165.is
+
+pub returns-in-166 : goal.returns-in-166
+unfolding svf_shift
+returns-in-166 c = arm svf_shift 166 c.in-166.is
+
+pub returns-in-167 : goal.returns-in-167
+unfolding svf_shift
+returns-in-167 c = arm svf_shift 167 c.in-167.is
+
+pub returns-in-168 : goal.returns-in-168
+unfolding svf_shift
+returns-in-168 c = arm svf_shift 168 c.in-168.is
+
+pub returns-in-169 : goal.returns-in-169
+unfolding svf_shift
+returns-in-169 c = arm svf_shift 169 c.in-169.is
+
+pub returns-in-170 : goal.returns-in-170
+unfolding svf_shift
+returns-in-170 c = arm svf_shift 170 c.in-170.is
+
+pub returns-in-171 : goal.returns-in-171
+unfolding svf_shift
+returns-in-171 c = arm svf_shift 171 c.in-171.is
+
+pub returns-in-172 : goal.returns-in-172
+unfolding svf_shift
+returns-in-172 c = arm svf_shift 172 c.in-172.is
+
+pub returns-in-173 : goal.returns-in-173
+unfolding svf_shift
+returns-in-173 c = arm svf_shift 173 c.in-173.is
+
+pub returns-in-174 : goal.returns-in-174
+unfolding svf_shift
+returns-in-174 c = arm svf_shift 174 c.in-174.is
+
+pub returns-in-175 : goal.returns-in-175
+unfolding svf_shift
+returns-in-175 c = arm svf_shift 175 c.in-175.is
+
+pub returns-in-176 : goal.returns-in-176
+unfolding svf_shift
+returns-in-176 c = arm svf_shift 176 c.in-176.is
+
+pub returns-in-177 : goal.returns-in-177
+unfolding svf_shift
+returns-in-177 c = arm svf_shift 177 c.in-177.is
+
+pub returns-in-178 : goal.returns-in-178
+unfolding svf_shift
+returns-in-178 c = arm svf_shift 178 c.in-178.is
+
+pub returns-in-179 : goal.returns-in-179
+unfolding svf_shift
+returns-in-179 c = arm svf_shift 179 c.in-179.is
+
+pub returns-in-180 : goal.returns-in-180
+unfolding svf_shift
+returns-in-180 c = arm svf_shift 180 c.in-180.is
+
+pub returns-in-181 : goal.returns-in-181
+unfolding svf_shift
+returns-in-181 c = arm svf_shift 181 c.in-181.is
+
+pub returns-in-182 : goal.returns-in-182
+unfolding svf_shift
+returns-in-182 c = arm svf_shift 182 c.in-182.is
+
+pub returns-in-183 : goal.returns-in-183
+unfolding svf_shift
+returns-in-183 c = arm svf_shift 183 c.in-183.is
+
+pub returns-in-184 : goal.returns-in-184
+unfolding svf_shift
+returns-in-184 c = arm svf_shift 184 c.in-184.is
+
+pub returns-in-185 : goal.returns-in-185
+unfolding svf_shift
+returns-in-185 c = arm svf_shift 185 c.in-185.is
+
+pub returns-in-186 : goal.returns-in-186
+unfolding svf_shift
+returns-in-186 c = arm svf_shift 186 c.in-186.is
+
+pub returns-in-187 : goal.returns-in-187
+unfolding svf_shift
+returns-in-187 c = arm svf_shift 187 c.in-187.is
+
+pub returns-in-188 : goal.returns-in-188
+unfolding svf_shift
+returns-in-188 c = arm svf_shift 188 c.in-188.is
+
+pub returns-in-189 : goal.returns-in-189
+unfolding svf_shift
+returns-in-189 c = arm svf_shift 189 c.in-189.is
+
+pub returns-in-190 : goal.returns-in-190
+unfolding svf_shift
+returns-in-190 c = arm svf_shift 190 c.in-190.is
+
+pub returns-in-191 : goal.returns-in-191
+unfolding svf_shift
+returns-in-191 c = arm svf_shift 191 c.in-191.is
+
+pub returns-in-192 : goal.returns-in-192
+unfolding svf_shift
+returns-in-192 c = arm svf_shift 192 c.in-192.is
+
+pub returns-in-193 : goal.returns-in-193
+unfolding svf_shift
+returns-in-193 c = arm svf_shift 193 c.in-193.is
+
+pub returns-in-194 : goal.returns-in-194
+unfolding svf_shift
+returns-in-194 c = arm svf_shift 194 c.in-194.is
+
+pub returns-in-195 : goal.returns-in-195
+unfolding svf_shift
+returns-in-195 c = arm svf_shift 195 c.in-195.is
+
+pub returns-in-196 : goal.returns-in-196
+unfolding svf_shift
+returns-in-196 c = arm svf_shift 196 c.in-196.is
+
+pub returns-in-197 : goal.returns-in-197
+unfolding svf_shift
+returns-in-197 c = arm svf_shift 197 c.in-197.is
+
+pub returns-in-198 : goal.returns-in-198
+unfolding svf_shift
+returns-in-198 c = arm svf_shift 198 c.in-198.is
+
+pub returns-in-199 : goal.returns-in-199
+unfolding svf_shift
+returns-in-199 c = arm svf_shift 199 c.in-199.is
+
+pub returns-in-200 : goal.returns-in-200
+unfolding svf_shift
+returns-in-200 c = arm svf_shift 200 c.in-200.is
+
+pub returns-in-201 : goal.returns-in-201
+unfolding svf_shift
+returns-in-201 c = arm svf_shift 201 c.in-201.is
+
+pub returns-in-202 : goal.returns-in-202
+unfolding svf_shift
+returns-in-202 c = arm svf_shift 202 c.in-202.is
+
+pub returns-in-203 : goal.returns-in-203
+unfolding svf_shift
+returns-in-203 c = arm svf_shift 203 c.in-203.is
+
+pub returns-in-204 : goal.returns-in-204
+unfolding svf_shift
+returns-in-204 c = arm svf_shift 204 c.in-204.is
+
+pub returns-in-205 : goal.returns-in-205
+unfolding svf_shift
+returns-in-205 c = arm svf_shift 205 c.in-205.is
+
+pub returns-in-206 : goal.returns-in-206
+unfolding svf_shift
+returns-in-206 c = arm svf_shift 206 c.in-206.is
+
+pub returns-in-207 : goal.returns-in-207
+unfolding svf_shift
+returns-in-207 c = arm svf_shift 207 c.in-207.is
+
+pub returns-in-208 : goal.returns-in-208
+unfolding svf_shift
+returns-in-208 c = arm svf_shift 208 c.in-208.is
+
+pub returns-in-209 : goal.returns-in-209
+unfolding svf_shift
+returns-in-209 c = arm svf_shift 209 c.in-209.is
+
+pub returns-in-210 : goal.returns-in-210
+unfolding svf_shift
+returns-in-210 c = arm svf_shift 210 c.in-210.is
+
+pub returns-in-211 : goal.returns-in-211
+unfolding svf_shift
+returns-in-211 c = arm svf_shift 211 c.in-211.is
+
+pub returns-in-212 : goal.returns-in-212
+unfolding svf_shift
+returns-in-212 c = arm svf_shift 212 c.in-212.is
+
+pub returns-in-213 : goal.returns-in-213
+unfolding svf_shift
+returns-in-213 c = arm svf_shift 213 c.in-213.is
+
+pub returns-in-214 : goal.returns-in-214
+unfolding svf_shift
+returns-in-214 c = arm svf_shift 214 c.in-214.is
+
+pub returns-in-215 : goal.returns-in-215
+unfolding svf_shift
+returns-in-215 c = arm svf_shift 215 c.in-215.is
+
+pub returns-in-216 : goal.returns-in-216
+unfolding svf_shift
+returns-in-216 c = arm svf_shift 216 c.in-216.is
+
+pub returns-in-217 : goal.returns-in-217
+unfolding svf_shift
+returns-in-217 c = arm svf_shift 217 c.in-217.is
+
+pub returns-in-218 : goal.returns-in-218
+unfolding svf_shift
+returns-in-218 c = arm svf_shift 218 c.in-218.is
+
+pub returns-in-219 : goal.returns-in-219
+unfolding svf_shift
+returns-in-219 c = arm svf_shift 219 c.in-219.is
+
+pub returns-in-220 : goal.returns-in-220
+unfolding svf_shift
+returns-in-220 c = arm svf_shift 220 c.in-220.is
+
+pub returns-in-221 : goal.returns-in-221
+unfolding svf_shift
+returns-in-221 c = arm svf_shift 221 c.in-221.is
+
+pub returns-in-222 : goal.returns-in-222
+unfolding svf_shift
+returns-in-222 c = arm svf_shift 222 c.in-222.is
+
+pub returns-in-223 : goal.returns-in-223
+unfolding svf_shift
+returns-in-223 c = arm svf_shift 223 c.in-223.is
+
+pub returns-in-224 : goal.returns-in-224
+unfolding svf_shift
+returns-in-224 c = arm svf_shift 224 c.in-224.is
+
+pub returns-in-225 : goal.returns-in-225
+unfolding svf_shift
+returns-in-225 c = arm svf_shift 225 c.in-225.is
+
+pub returns-in-226 : goal.returns-in-226
+unfolding svf_shift
+returns-in-226 c = arm svf_shift 226 c.in-226.is
+
+pub returns-in-227 : goal.returns-in-227
+unfolding svf_shift
+returns-in-227 c = arm svf_shift 227 c.in-227.is
+
+pub returns-in-228 : goal.returns-in-228
+unfolding svf_shift
+returns-in-228 c = arm svf_shift 228 c.in-228.is
+
+pub returns-in-229 : goal.returns-in-229
+unfolding svf_shift
+returns-in-229 c = arm svf_shift 229 c.in-229.is
+
+pub returns-in-230 : goal.returns-in-230
+unfolding svf_shift
+returns-in-230 c = arm svf_shift 230 c.in-230.is
+
+pub returns-in-231 : goal.returns-in-231
+unfolding svf_shift
+returns-in-231 c = arm svf_shift 231 c.in-231.is
+
+pub returns-in-232 : goal.returns-in-232
+unfolding svf_shift
+returns-in-232 c = arm svf_shift 232 c.in-232.is
+
+pub returns-in-233 : goal.returns-in-233
+unfolding svf_shift
+returns-in-233 c = arm svf_shift 233 c.in-233.is
+
+pub returns-in-234 : goal.returns-in-234
+unfolding svf_shift
+returns-in-234 c = arm svf_shift 234 c.in-234.is
+
+pub returns-in-235 : goal.returns-in-235
+unfolding svf_shift
+returns-in-235 c = arm svf_shift 235 c.in-235.is
+
+pub returns-in-236 : goal.returns-in-236
+unfolding svf_shift
+returns-in-236 c = arm svf_shift 236 c.in-236.is
+
+pub returns-in-237 : goal.returns-in-237
+unfolding svf_shift
+returns-in-237 c = arm svf_shift 237 c.in-237.is
+
+pub returns-in-238 : goal.returns-in-238
+unfolding svf_shift
+returns-in-238 c = arm svf_shift 238 c.in-238.is
+
+pub returns-in-239 : goal.returns-in-239
+unfolding svf_shift
+returns-in-239 c = arm svf_shift 239 c.in-239.is
+
+pub returns-in-240 : goal.returns-in-240
+unfolding svf_shift
+returns-in-240 c = arm svf_shift 240 c.in-240.is
+
+pub returns-in-241 : goal.returns-in-241
+unfolding svf_shift
+returns-in-241 c = arm svf_shift 241 c.in-241.is
+
+pub returns-in-242 : goal.returns-in-242
+unfolding svf_shift
+returns-in-242 c = arm svf_shift 242 c.in-242.is
+
+pub returns-in-243 : goal.returns-in-243
+unfolding svf_shift
+returns-in-243 c = arm svf_shift 243 c.in-243.is
+
+pub returns-in-244 : goal.returns-in-244
+unfolding svf_shift
+returns-in-244 c = arm svf_shift 244 c.in-244.is
+
+pub returns-in-245 : goal.returns-in-245
+unfolding svf_shift
+returns-in-245 c = arm svf_shift 245 c.in-245.is
+
+pub returns-in-246 : goal.returns-in-246
+unfolding svf_shift
+returns-in-246 c = arm svf_shift 246 c.in-246.is
+
+pub returns-in-247 : goal.returns-in-247
+unfolding svf_shift
+returns-in-247 c = arm svf_shift 247 c.in-247.is
+
+pub returns-in-248 : goal.returns-in-248
+unfolding svf_shift
+returns-in-248 c = arm svf_shift 248 c.in-248.is
+
+pub returns-in-249 : goal.returns-in-249
+unfolding svf_shift
+returns-in-249 c = arm svf_shift 249 c.in-249.is
+
+pub returns-in-250 : goal.returns-in-250
+unfolding svf_shift
+returns-in-250 c = arm svf_shift 250 c.in-250.is
+
+pub returns-in-251 : goal.returns-in-251
+unfolding svf_shift
+returns-in-251 c = arm svf_shift 251 c.in-251.is
+
+pub returns-in-252 : goal.returns-in-252
+unfolding svf_shift
+returns-in-252 c = arm svf_shift 252 c.in-252.is
+
+pub returns-in-253 : goal.returns-in-253
+unfolding svf_shift
+returns-in-253 c = arm svf_shift 253 c.in-253.is
+
+pub returns-in-254 : goal.returns-in-254
+unfolding svf_shift
+returns-in-254 c = arm svf_shift 254 c.in-254.is
+
+pub returns-in-255 : goal.returns-in-255
+unfolding svf_shift
+returns-in-255 c = arm svf_shift 255 c.in-255.is
+
+pub returns-in-256 : goal.returns-in-256
+unfolding svf_shift
+returns-in-256 c = arm svf_shift 256 c.in-256.is
+
+pub returns-in_default : goal.returns-in_default
+unfolding svf_shift
+returns-in_default c = past svf_shift c.args.i c.in_default.in_default-own.rest

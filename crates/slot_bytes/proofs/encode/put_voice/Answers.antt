@@ -1,0 +1,12 @@
+-- `encode::put_voice` meets its contract.
+use Rattle.slot_bytes.specs.Layout.{voice_words, string_words, svf_words, dc_words}
+use Rattle.slot_bytes.proofs.Little.{wrote}
+use native.Mathlib.Omega.{arith}
+use Rattle.slot_bytes.proofs.encode.put_voice.Goals as goal
+
+pub returns : goal.returns
+unfolding voice_words string_words svf_words dc_words
+returns c = (
+  wrote _ _ _ _ _ (wrote _ _ _ _ _ c.put_svf.ensures.0 c.put_string.ensures.0 (omega arith) (omega (arith, c.requires))) c.put_word.ensures (omega arith) (omega (arith, c.requires)),
+  (c.put_svf.ensures.1, c.put_string.ensures.1),
+)

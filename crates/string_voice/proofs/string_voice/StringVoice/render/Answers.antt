@@ -1,0 +1,24 @@
+-- `string_voice::StringVoice::render` meets its contract: one loop is its two halves in order.
+use native.Mathlib.Omega.{arith}
+use lib.ListN.{length}
+use Rattle.waveguide.proofs.Blocks.{prepared_good}
+use Rattle.string_voice.proofs.Halves.{struck_good}
+use Rattle.string_voice.proofs.OneLoop.{together}
+use Rattle.string_voice.proofs.string_voice.StringVoice.render.Goals as goal
+
+pub sound_frames-s-requires : goal.sound_frames-s-requires
+sound_frames-s-requires c =
+    let a = c.args in
+    let q = c.requires.2 in
+    let v = c.strike-struck in (
+      prepared_good c.non_linearity-shape.result a.k.f0 c.raise-bright.result c.raise-damped.result (length a.out.now) v.result.string a.lines.now _ c.prepare-b.ensures
+          (struck_good a.k a.self v.result a.lines.now v.ensures c.requires.0),
+      c.requires.1,
+      record { temp2_is = omega (arith, q.temp2_is); out_is = omega (arith, q.out_is); aux_is = omega (arith, q.aux_is) },
+    )
+
+pub returns : goal.returns
+returns c =
+    let a = c.args in
+    let v = c.strike-struck in
+    together a.k a.self v.result a.lines.now a.temp.now a.temp_2.now a.out.now a.aux.now a.word v.ensures c.noise_left-left_after.ensures c.counts_of-e.ensures c.fill_excitation-excited.ensures c.amount_for-amount.ensures c.non_linearity-shape.ensures c.raise-bright.ensures c.raise-damped.ensures c.prepare-b.ensures c.sound_frames-s.ensures

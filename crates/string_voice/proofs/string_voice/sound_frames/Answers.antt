@@ -1,0 +1,145 @@
+-- `string_voice::sound_frames` meets its contract: the loops that it joins, each by the law of loops over frames.
+use mathlib.Core.Path.{refl, sym, ◌∙◌, ap}
+use mathlib.Core.List.{List}
+use Prim.Native.Nat.{◌+◌, ◌≤◌, ◌<◌, min}
+use native.Mathlib.Omega.{arith}
+use lib.ListN.{length, get_or}
+use lib.Ieee.{Float, nan}
+use Rattle.ground.specs.F32.{◌⊕◌}
+use Rattle.ground.specs.Draw.{counted}
+use Rattle.ground.specs.Frames.{frames}
+use Rattle.ground.proofs.Draw.{run_then}
+use Rattle.ground.proofs.Frames.{frames_begin, frames_turn, frames_good, length_scan, scan_turn, scan_end}
+use Rattle.ground.proofs.Lead.{lead_begin, lead_turn, lead_puts, lead_end}
+use Rattle.utils.specs.declared.filter.Svf.{Svf}
+use Rattle.utils.specs.Filter.{svf_step, svf_buffer}
+use Rattle.waveguide.specs.declared.string.String.{String}
+use Rattle.waveguide.specs.String.{moved, frame_of, Good}
+use Rattle.waveguide.proofs.Steps.{begun_ahead, begun_drawn, begun_good, begun_run, frame_good, words_to_few, words_turn, words_end}
+use Rattle.string_voice.proofs.OneLoop.{ahead_step, ahead_end, all_frames}
+use Rattle.string_voice.proofs.string_voice.sound_frames.Goals as goal
+
+pub loop-i-init : goal.loop-i-init
+loop-i-init c =
+    let a = c.args in
+    let q = c.requires.2 in
+    let e = c.begin-u.ensures in
+    let h = c.filter_first-ahead.ensures in (
+      lead_begin (ahead_step a.f a.temp.now 0 h.0) (ahead_end a.f a.temp.now 0 h.0),
+      frames_begin,
+      frames_begin,
+      begun_ahead a.p a.v _ e,
+      begun_drawn a.p a.v _ e,
+      h.1,
+      λ k. sym (ahead_end a.f a.temp.now 0 h.0 k),
+      record {
+        all = refl;
+        temp2_size = q.temp2_is;
+        out_size = q.out_is;
+        aux_size = q.aux_is;
+        filtered_size = length_scan svf_step a.f a.temp.now a.temp_2.now ∙ q.temp2_is;
+        few = omega (arith, q.out_is, c.requires.1);
+      },
+    )
+
+pub offset_bounds-temp_2-i : goal.offset_bounds-temp_2-i
+offset_bounds-temp_2-i c = omega (arith, c.loop-i.invariant.7, c.loop-i-test)
+
+pub bounds-temp_2-i : goal.bounds-temp_2-i
+bounds-temp_2-i c = omega (arith, c.loop-i.invariant.7, c.loop-i-test)
+
+pub offset_bounds-aux-i : goal.offset_bounds-aux-i
+offset_bounds-aux-i c = omega (arith, c.loop-i.invariant.7, c.loop-i-test)
+
+pub bounds-aux-i : goal.bounds-aux-i
+bounds-aux-i c = omega (arith, c.loop-i.invariant.7, c.loop-i-test)
+
+pub bounds-aux-i-in-loop-i : goal.bounds-aux-i-in-loop-i
+bounds-aux-i-in-loop-i c = omega (arith, c.loop-i.invariant.7, c.loop-i-test)
+
+pub advance-u-requires : goal.advance-u-requires
+advance-u-requires c =
+    let a = c.args in
+    let b = c.begin-u in
+    let l = c.loop-i in (
+      frames_good Good (frame_good a.shape a.p) (begun_good a.p a.v _ b.ensures a.lines.now c.requires.0) l.invariant.2,
+      l.invariant.3,
+      omega (arith, l.invariant.4, words_to_few a.shape a.p b.result.string.src_phase l.i, l.invariant.2.within, l.invariant.7.few, l.invariant.7.out_size),
+    )
+
+pub filter_on-ahead-requires : goal.filter_on-ahead-requires
+filter_on-ahead-requires c = let v = c.loop-i.invariant in (v.5, omega (arith, v.7.all, c.loop-i-test))
+
+pub offset_bounds-out-i : goal.offset_bounds-out-i
+offset_bounds-out-i c = omega (arith, c.loop-i.invariant.7, c.loop-i-test)
+
+pub bounds-out-i : goal.bounds-out-i
+bounds-out-i c = omega (arith, c.loop-i.invariant.7, c.loop-i-test, c.loop-i.invariant.2.size)
+
+pub offset_bounds-out-i-in-loop-i : goal.offset_bounds-out-i-in-loop-i
+offset_bounds-out-i-in-loop-i c = omega (arith, c.loop-i.invariant.7, c.loop-i-test)
+
+pub bounds-out-i-in-loop-i : goal.bounds-out-i-in-loop-i
+bounds-out-i-in-loop-i c = omega (arith, c.loop-i.invariant.7, c.loop-i-test, c.loop-i.invariant.2.size)
+
+pub overflow_add-i : goal.overflow_add-i
+overflow_add-i c = omega (arith, c.loop-i.invariant.7, c.loop-i-test)
+
+pub loop-i-smaller : goal.loop-i-smaller
+loop-i-smaller c = omega (arith, c.loop-i.invariant.7, c.loop-i-test)
+
+pub loop-i-preserved : goal.loop-i-preserved
+loop-i-preserved c =
+    let a = c.args in
+    let b = c.begin-u in
+    let l = c.loop-i in
+    let v = l.invariant in
+    let z = v.7 in
+    let xs = (svf_buffer a.f a.temp.now a.temp_2.now).1 in
+    let lt : l.i < length a.temp.now = omega (arith, z.all, c.loop-i-test) in
+    let within : l.i < min (length a.temp.now) (length a.temp_2.now) = omega (arith, z, lt) in
+    let x = lead_puts nan v.0 within in
+    let q = c.filter_on-ahead.ensures in
+    let m = c.advance-u.ensures in
+    let good = begun_good a.p a.v _ b.ensures a.lines.now c.requires.0 in (
+      lead_turn nan v.0 within (ahead_step l.ahead.svf a.temp.now (l.i + 1) q.0) (ahead_end l.ahead.svf a.temp.now (l.i + 1) q.0),
+      scan_turn nan nan v.1 (omega (arith, z, lt)) (ap (λ (x : Float). (tt, get_or l.aux l.i nan ⊕ x)) x),
+      frames_turn nan nan v.2 (omega (arith, z, lt)) (rw (← x, c.mix.ensures) (run_then (moved a.shape a.p _ (l.u.string, l.lines)) _ l.u.word m.0)),
+      m.1,
+      words_turn a.shape a.p (b.result.string, a.lines.now) xs a.out.now b.result.word good l.i l.u.drawn _ v.2 (omega (arith, z, lt)) v.4 m.2,
+      q.1,
+      λ k. refl,
+      z,
+    )
+
+pub shape_of-lines : goal.shape_of-lines
+shape_of-lines c =
+    let a = c.args in
+    let b = c.begin-u in
+    let g = frames_good Good (frame_good a.shape a.p) (begun_good a.p a.v _ b.ensures a.lines.now c.requires.0) c.loop-i.invariant.2 in
+    omega (arith, c.requires.0.size, g.size)
+
+pub shape_of-temp_2 : goal.shape_of-temp_2
+shape_of-temp_2 c = c.loop-i.invariant.0.done.size
+
+pub shape_of-out : goal.shape_of-out
+shape_of-out c = c.loop-i.invariant.2.size
+
+pub shape_of-aux : goal.shape_of-aux
+shape_of-aux c = c.loop-i.invariant.1.size
+
+pub returns : goal.returns
+returns c =
+    let a = c.args in
+    let b = c.begin-u in
+    let l = c.loop-i in
+    let v = l.invariant in
+    let z = v.7 in
+    let xs = (svf_buffer a.f a.temp.now a.temp_2.now).1 in
+    let good = begun_good a.p a.v _ b.ensures a.lines.now c.requires.0 in
+    let past : length a.temp.now ≤ l.i = omega (arith, z.all, c.loop-i-test) in
+    all_frames a.shape a.p a.f (a.v.string, a.lines.now) a.temp.now a.temp_2.now a.out.now a.aux.now a.v.word
+    (ap (λ (f : Svf). (f, l.temp_2)) (v.6 past) ∙ lead_end v.0 past)
+    (ap (λ (q : Unit {0} × List Float). q.1) (scan_end v.1 (omega (arith, z, c.loop-i-test))))
+    (begun_run a.p a.v b.result b.ensures (λ (t : String). counted (frames (frame_of a.shape a.p) (t, a.lines.now) xs a.out.now))
+    (words_end a.shape a.p (b.result.string, a.lines.now) xs a.out.now b.result.word good l.i l.u.drawn v.2 (omega (arith, z, c.loop-i-test)) v.4))

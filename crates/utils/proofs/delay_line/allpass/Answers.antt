@@ -1,0 +1,20 @@
+-- `delay_line::allpass` meets its contract.
+use mathlib.Core.Path.{ap}
+use Prim.Native.Nat.{◌+◌}
+use native.Mathlib.Omega.{arith}
+use Rattle.utils.specs.DelayLine.{allpass_of}
+use Rattle.utils.proofs.DelayLine.{tap_round}
+use Rattle.utils.proofs.delay_line.allpass.Goals as goal
+
+pub returns : goal.returns
+unfolding allpass_of
+returns c =
+    let a = c.args in
+    let w = c.rounded in
+    let e = c.write-next.ensures in
+    rw (
+      ap (λ q. q.0) e,
+      ap (λ q. q.1) e,
+      c.read-tapped.ensures,
+      tap_round a.line.now a.delay w.result (a.write_ptr + w.result) (a.write_ptr + a.delay) w.ensures.0 (omega arith),
+    )
