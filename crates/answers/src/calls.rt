@@ -5,6 +5,7 @@ ghost use Rattle.answers.specs.Counts.{Counts};
 use crate::{draws, format, print, words};
 use ground::bits::{float_of, pattern_of};
 use noise::excitation::Knobs;
+use std::io;
 
 // The words of a call.
 fn row_of(bytes: [u8; 256]) -> [u32; 64] {
@@ -181,29 +182,42 @@ pub struct Call {
 }
 
 // Reads the next call of a file.
-pub fn next(fd: i32, checksum: u32) -> Call {
+pub fn next<R: io::Read>(reader: &mut R, checksum: u32) -> io::Result<Call> {
     let mut bytes = [0u8; 256];
-    let r = format::read_bytes(fd, &mut bytes, checksum);
-    Call {
+    let r = format::read_bytes(reader, &mut bytes, checksum)?;
+    Ok(Call {
         row: row_of(bytes),
         read: r.read,
         checksum: r.checksum,
-    }
+    })
 }
 
 // A line for a call of a voice that differs; the calls are numbered from 0.
-fn show(name: &[u8], number: u32, row: [u32; 64], other: [u32; 64]) {
-    print::say(name);
-    print::differs(b" differs at call ", number, &row, &other);
+fn show(
+    rt: &impl Print,
+    name: &[u8],
+    number: u32,
+    row: [u32; 64],
+    other: [u32; 64],
+) -> io::Result<()> {
+    print::say(rt, name)?;
+    print::differs(rt, b" differs at call ", number, &row, &other)
 }
 
 // 1 where a call differs, and it is shown where fewer than five did before.
-fn compared(name: &[u8], number: u32, row: [u32; 64], other: [u32; 64], before: u32) -> u32 {
+fn compared(
+    rt: &impl Print,
+    name: &[u8],
+    number: u32,
+    row: [u32; 64],
+    other: [u32; 64],
+    before: u32,
+) -> io::Result<u32> {
     let differ = format::difference(&row, &other);
     if print::is_shown(differ, before) {
-        show(name, number, row, other);
+        show(rt, name, number, row, other)?;
     }
-    differ
+    Ok(differ)
 }
 
 // What a call adds to the sums.
@@ -237,15 +251,16 @@ pub fn voice_adds(row: [u32; 64]) -> Adds {
 
 // After a whole call of that name, compared with the row that making it again gave.
 pub fn after(
+    rt: &impl Print,
     name: &[u8],
     p: Progress,
     row: [u32; 64],
     other: [u32; 64],
     adds: Adds,
     checksum: u32,
-) -> Progress {
-    let differ = compared(name, p.calls, row, other, p.differ);
-    Progress {
+) -> io::Result<Progress> {
+    let differ = compared(rt, name, p.calls, row, other, p.differ)?;
+    Ok(Progress {
         calls: std::num::wrapping_add_u32(p.calls, 1),
         sequences: std::num::wrapping_add_u32(p.sequences, adds.sequences),
         blocks: std::num::wrapping_add_u32(p.blocks, adds.blocks),
@@ -253,7 +268,7 @@ pub fn after(
         differ: std::num::wrapping_add_u32(p.differ, differ),
         checksum,
         read: 256,
-    }
+    })
 }
 
 // After a read that was no whole call.
@@ -270,24 +285,30 @@ pub fn ended(p: Progress, checksum: u32, read: usize) -> Progress {
 }
 
 // A line where the length of the file of that name is not the one that its header says.
-fn length_line(file: &[u8], p: Progress, stated: u32) {
-    print::length_line(file, b"calls", p.calls, p.read, 256, stated);
+fn length_line(rt: &impl Print, file: &[u8], p: Progress, stated: u32) -> io::Result<()> {
+    print::length_line(rt, file, b"calls", p.calls, p.read, 256, stated)
 }
 
 // The sums over all calls of the voice of that name.
-fn total_line(name: &[u8], p: Progress) {
-    print::say(name);
-    print::count(b": ", p.sequences);
-    print::count(b" sequences of ", p.calls);
-    print::count(b" calls, ", p.blocks);
-    print::count(b" blocks of ", p.samples);
-    print::count(b" samples, ", p.differ);
-    print::say(b" calls differ\n");
+fn total_line(rt: &impl Print, name: &[u8], p: Progress) -> io::Result<()> {
+    print::say(rt, name)?;
+    print::count(rt, b": ", p.sequences)?;
+    print::count(rt, b" sequences of ", p.calls)?;
+    print::count(rt, b" calls, ", p.blocks)?;
+    print::count(rt, b" blocks of ", p.samples)?;
+    print::count(rt, b" samples, ", p.differ)?;
+    print::say(rt, b" calls differ\n")
 }
 
 // All the lines after the last call.
-pub fn report(name: &[u8], file: &[u8], p: Progress, stated: u32) {
-    length_line(file, p, stated);
-    print::checksum_line(p.checksum);
-    total_line(name, p);
+pub fn report(
+    rt: &impl Print,
+    name: &[u8],
+    file: &[u8],
+    p: Progress,
+    stated: u32,
+) -> io::Result<()> {
+    length_line(rt, file, p, stated)?;
+    print::checksum_line(rt, p.checksum)?;
+    total_line(rt, name, p)
 }

@@ -1,8 +1,9 @@
 // A file: a header line of 128 bytes, then records of 16 little-endian words.
-ghost use Rattle.std.specs.Prelude.{◌*◌, ◌<◌, ◌≤◌, length};
+ghost use Rattle.std.specs.Prelude.{◌*◌, ◌<◌, ◌≤◌, length, IfOk};
 ghost use Rattle.answers.specs.Counts.{Counts};
 
 use crate::{draws, words};
+use std::io;
 
 // The length of the header's text without its padding; all of it where it ends with no line feed.
 pub fn text_length(header: &[u8]) -> usize
@@ -32,13 +33,30 @@ pub struct Read {
     pub checksum: u32,
 }
 
+// Reads until there is no room or there are no more bytes, and gives how many were read.
+fn read_full<R: io::Read>(reader: &mut R, bytes: &mut [u8]) -> io::Result<usize>
+    ensures { IfOk result (λ n. Counts n bytes.new) }
+{
+    let mut read = 0;
+    while read < bytes.len() {
+        let more = reader.read(&mut bytes[read..])?;
+        if more == 0 {
+            break;
+        }
+        read += more;
+    }
+    Ok(read)
+}
+
 // Reads bytes, as many as there are room and bytes for, onto the digest of those before them.
-pub fn read_bytes(fd: i32, bytes: &mut [u8], checksum: u32) -> Read {
-    let read = io::read_full(fd, bytes);
-    Read {
+pub fn read_bytes<R: io::Read>(reader: &mut R, bytes: &mut [u8], checksum: u32) -> io::Result<Read>
+    ensures { IfOk result (λ r. r.read ≤ length bytes.new) }
+{
+    let read = read_full(reader, bytes)?;
+    Ok(Read {
         read,
         checksum: draws::digest_of_bytes(checksum, &bytes[..read]),
-    }
+    })
 }
 
 // The number that the decimal digits before the end make.

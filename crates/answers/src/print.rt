@@ -1,39 +1,46 @@
 // What is written to standard output.
 use crate::words;
-use libc::STDOUT_FILENO;
+use std::io;
 
-pub fn say(text: &[u8]) {
-    io::write_all(STDOUT_FILENO, text);
+pub fn say(rt: &impl Print, text: &[u8]) -> io::Result<()> {
+    rt.write_all(text)
 }
 
 // A text and a number after it.
-pub fn count(text: &[u8], n: u32) {
-    say(text);
-    io::print_decimal(STDOUT_FILENO, n as u64);
+pub fn count(rt: &impl Print, text: &[u8], n: u32) -> io::Result<()> {
+    say(rt, text)?;
+    print!(rt; "{n}")
 }
 
 // A text and a word after it.
-pub fn word(text: &[u8], w: u32) {
-    say(text);
-    io::print_hex(STDOUT_FILENO, w as u64, 8);
+pub fn word(rt: &impl Print, text: &[u8], w: u32) -> io::Result<()> {
+    say(rt, text)?;
+    print!(rt; "{w:08x}")
 }
 
 // A text and words after it.
-pub fn row(text: &[u8], words: &[u32]) {
-    say(text);
+pub fn row(rt: &impl Print, text: &[u8], words: &[u32]) -> io::Result<()> {
+    say(rt, text)?;
     let mut k = 0;
     while k < words.len() {
-        word(b" ", words[k]);
+        word(rt, b" ", words[k])?;
         k += 1;
     }
+    Ok(())
 }
 
 // The end of a line for what differs: its number, and its words as recorded and again.
-pub fn differs(text: &[u8], number: u32, recorded: &[u32], again: &[u32]) {
-    count(text, number);
-    row(b": recorded", recorded);
-    row(b", again", again);
-    say(b"\n");
+pub fn differs(
+    rt: &impl Print,
+    text: &[u8],
+    number: u32,
+    recorded: &[u32],
+    again: &[u32],
+) -> io::Result<()> {
+    count(rt, text, number)?;
+    row(rt, b": recorded", recorded)?;
+    row(rt, b", again", again)?;
+    say(rt, b"\n")
 }
 
 // Whether what was compared is shown: where it differs, and fewer than five did before.
@@ -53,45 +60,55 @@ fn part(read: usize, size: usize) -> u32 {
 }
 
 // A line where a file's length is not the one that its header says; its records are of that kind and size.
-pub fn length_line(file: &[u8], kind: &[u8], whole: u32, read: usize, size: usize, stated: u32) {
+pub fn length_line(
+    rt: &impl Print,
+    file: &[u8],
+    kind: &[u8],
+    whole: u32,
+    read: usize,
+    size: usize,
+    stated: u32,
+) -> io::Result<()> {
     if read == 0 {
         if whole == stated {
-            return;
+            return Ok(());
         }
     }
-    say(file);
-    count(b" has ", whole);
-    say(b" whole ");
-    say(kind);
-    count(b" and ", part(read, size));
-    count(b" bytes more, where its header says ", stated);
-    say(b" ");
-    say(kind);
-    say(b"\n");
+    say(rt, file)?;
+    count(rt, b" has ", whole)?;
+    say(rt, b" whole ")?;
+    say(rt, kind)?;
+    count(rt, b" and ", part(read, size))?;
+    count(rt, b" bytes more, where its header says ", stated)?;
+    say(rt, b" ")?;
+    say(rt, kind)?;
+    say(rt, b"\n")
 }
 
-pub fn checksum_line(checksum: u32) {
-    word(b"checksum of all bytes: ", checksum);
-    say(b"\n");
+pub fn checksum_line(rt: &impl Print, checksum: u32) -> io::Result<()> {
+    word(rt, b"checksum of all bytes: ", checksum)?;
+    say(rt, b"\n")
 }
 
 // The word of that number in a text, from 0 on.
-fn word_in(text: &[u8], number: usize) {
+fn word_in(rt: &impl Print, text: &[u8], number: usize) -> io::Result<()> {
     let mut spaces = 0;
     let mut i = 0;
     while i < text.len() {
         if text[i] == b' ' {
             spaces += 1;
         } else if spaces == number {
-            say(&text[i..i + 1]);
+            say(rt, &text[i..i + 1])?;
         }
         i += 1;
     }
+    Ok(())
 }
 
 // The name of the function at a place of the tally.
-pub fn name(place: usize) {
+pub fn name(rt: &impl Print, place: usize) -> io::Result<()> {
     word_in(
+        rt,
         b"none \
         whole_part fraction min clamp abs \
         random dust \
@@ -101,5 +118,5 @@ pub fn name(place: usize) {
         cosine_oscillator amplitudes \
         semitones_to_ratio tables",
         place,
-    );
+    )
 }

@@ -1,10 +1,13 @@
 // Lists of calls of a bank: every recorded call is made again.
+#![tactic(auto)]
+
 mod calls;
 mod digests;
 
 use answers::calls::{Adds, Progress};
 use answers::print;
 use slots::slots::Bank;
+use std::io;
 
 // What was compared so far, the bank and the generator's word as the last call left them, and how many calls got each of 01's numbers.
 #[derive(Clone, Copy)]
@@ -59,18 +62,24 @@ fn with_number(numbers: [u32; 14], row: [u32; 64]) -> [u32; 14] {
 }
 
 // After a whole call, made again.
-fn after(before: Replayed, row: [u32; 64], made: calls::Made, checksum: u32) -> Replayed {
+fn after(
+    rt: &impl Print,
+    before: Replayed,
+    row: [u32; 64],
+    made: calls::Made,
+    checksum: u32,
+) -> io::Result<Replayed> {
     let bank = made.bank;
     let other = made.row;
     let p = before.progress;
     let numbers = before.numbers;
-    let progress = answers::calls::after(b"bank", p, row, other, adds_of(row), checksum);
-    Replayed {
+    let progress = answers::calls::after(rt, b"bank", p, row, other, adds_of(row), checksum)?;
+    Ok(Replayed {
         bank,
         word: made.word,
         numbers: with_number(numbers, other),
         progress,
-    }
+    })
 }
 
 // After a read that was no whole call.
@@ -88,53 +97,59 @@ fn ended(before: Replayed, checksum: u32, read: usize) -> Replayed {
 }
 
 // One call more, if there is one.
-fn step(fd: i32, before: Replayed, lines: &mut [f32]) -> Replayed {
+fn step<R: io::Read>(
+    rt: &impl Print,
+    reader: &mut R,
+    before: Replayed,
+    lines: &mut [f32],
+) -> io::Result<Replayed> {
     let p = before.progress;
     if p.read != 256 {
-        return before;
+        return Ok(before);
     }
-    let call = answers::calls::next(fd, p.checksum);
+    let call = answers::calls::next(reader, p.checksum)?;
     if call.read != 256 {
-        return ended(before, call.checksum, call.read);
+        return Ok(ended(before, call.checksum, call.read));
     }
     let row = call.row;
     let bank = before.bank;
-    after(
-        before,
-        row,
-        calls::again(bank, before.word, row, lines),
-        call.checksum,
-    )
+    let made = calls::again(bank, before.word, row, lines);
+    after(rt, before, row, made, call.checksum)
 }
 
 // Every call, up to 65,536.
-fn read_all(fd: i32, begun: Replayed) -> Replayed {
+fn read_all<R: io::Read>(rt: &impl Print, reader: &mut R, begun: Replayed) -> io::Result<Replayed> {
     let mut lines = [0.0f32; 10241];
     let mut p = begun;
     let mut i: u32 = 0;
     while i < 65536 {
-        p = step(fd, p, &mut lines);
+        p = step(rt, reader, p, &mut lines)?;
         i += 1;
     }
-    p
+    Ok(p)
 }
 
 // How many calls got each number, from 0 on.
-fn numbers_line(numbers: [u32; 14]) {
-    print::say(b"bank: calls by number");
+fn numbers_line(rt: &impl Print, numbers: [u32; 14]) -> io::Result<()> {
+    print::say(rt, b"bank: calls by number")?;
     let mut k = 0;
     while k < 14 {
-        print::count(b" ", numbers[k]);
+        print::count(rt, b" ", numbers[k])?;
         k += 1;
     }
-    print::say(b"\n");
+    print::say(rt, b"\n")
 }
 
 // The calls from a header on, and what was compared.
-pub fn replay(fd: i32, stated: u32, checksum: u32) {
-    let all = read_all(fd, begin(checksum));
+pub fn replay<R: io::Read>(
+    rt: &impl Print,
+    reader: &mut R,
+    stated: u32,
+    checksum: u32,
+) -> io::Result<()> {
+    let all = read_all(rt, reader, begin(checksum))?;
     let p = all.progress;
     let numbers = all.numbers;
-    numbers_line(numbers);
-    answers::calls::report(b"bank", b"banks.bin", p, stated);
+    numbers_line(rt, numbers)?;
+    answers::calls::report(rt, b"bank", b"banks.bin", p, stated)
 }

@@ -2,6 +2,7 @@
 use crate::tally::Count;
 use crate::{functions, tally};
 use answers::{format, print};
+use std::io;
 
 // What was read and compared so far.
 #[derive(Clone, Copy)]
@@ -89,64 +90,79 @@ fn count_of(words: [u32; 16], other: [u32; 16], differ: u32) -> Count {
 }
 
 // A line for a record that differs; the records are numbered from 0.
-fn show(number: u32, words: [u32; 16], other: [u32; 16]) {
-    print::name(tally::place(words[0] % 65536));
-    print::differs(b" differs at record ", number, &words, &other);
+fn show(rt: &impl Print, number: u32, words: [u32; 16], other: [u32; 16]) -> io::Result<()> {
+    print::name(rt, tally::place(words[0] % 65536))?;
+    print::differs(rt, b" differs at record ", number, &words, &other)
 }
 
 // Asks a record again, and shows it where it differs and fewer than five did before.
-fn compared(words: [u32; 16], number: u32, before: u32) -> Count {
+fn compared(rt: &impl Print, words: [u32; 16], number: u32, before: u32) -> io::Result<Count> {
     let other = again(words);
     let differ = format::difference(&words, &other);
     if print::is_shown(differ, before) {
-        show(number, words, other);
+        show(rt, number, words, other)?;
     }
-    count_of(words, other, differ)
+    Ok(count_of(words, other, differ))
 }
 
 // The counts with a record more.
-fn counted(counts: [Count; 23], number: u32, words: [u32; 16]) -> [Count; 23] {
+fn counted(
+    rt: &impl Print,
+    counts: [Count; 23],
+    number: u32,
+    words: [u32; 16],
+) -> io::Result<[Count; 23]> {
     let before = tally::sum(counts).differ;
-    let more = compared(words, number, before);
-    tally::added(counts, tally::place(words[0] % 65536), more)
+    let more = compared(rt, words, number, before)?;
+    Ok(tally::added(counts, tally::place(words[0] % 65536), more))
 }
 
 // After a read: one record more where it was whole.
-fn after(p: Progress, bytes: [u8; 64], read: usize, checksum: u32) -> Progress {
+fn after(
+    rt: &impl Print,
+    p: Progress,
+    bytes: [u8; 64],
+    read: usize,
+    checksum: u32,
+) -> io::Result<Progress> {
     let counts = p.counts;
     if read != 64 {
-        return Progress {
+        return Ok(Progress {
             counts,
             records: p.records,
             checksum,
             read,
-        };
+        });
     }
-    Progress {
-        counts: counted(counts, p.records, format::words_of(bytes)),
+    Ok(Progress {
+        counts: counted(rt, counts, p.records, format::words_of(bytes))?,
         records: std::num::wrapping_add_u32(p.records, 1),
         checksum,
         read,
-    }
+    })
 }
 
 // One record more, if there is one.
-fn step(fd: i32, p: Progress) -> Progress {
+fn step<R: io::Read>(rt: &impl Print, reader: &mut R, p: Progress) -> io::Result<Progress> {
     if p.read != 64 {
-        return p;
+        return Ok(p);
     }
     let mut bytes = [0u8; 64];
-    let r = format::read_bytes(fd, &mut bytes, p.checksum);
-    after(p, bytes, r.read, r.checksum)
+    let r = format::read_bytes(reader, &mut bytes, p.checksum)?;
+    after(rt, p, bytes, r.read, r.checksum)
 }
 
 // Every record, up to 65,536.
-pub fn read_all(fd: i32, begun: Progress) -> Progress {
+pub fn read_all<R: io::Read>(
+    rt: &impl Print,
+    reader: &mut R,
+    begun: Progress,
+) -> io::Result<Progress> {
     let mut p = begun;
     let mut i: u32 = 0;
     while i < 65536 {
-        p = step(fd, p);
+        p = step(rt, reader, p)?;
         i += 1;
     }
-    p
+    Ok(p)
 }

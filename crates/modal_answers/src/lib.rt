@@ -1,8 +1,11 @@
 // The sequences of the modal voice: every recorded call is made again.
+#![tactic(auto)]
+
 mod calls;
 
 use answers::calls::Progress;
 use modal_voice::modal_voice::ModalVoice;
+use std::io;
 
 // What was compared so far, and the voice as the last call left it.
 #[derive(Clone, Copy)]
@@ -19,12 +22,18 @@ fn begin(checksum: u32) -> Replayed {
 }
 
 // After a whole call, made again.
-fn after(p: Progress, row: [u32; 64], made: calls::Made, checksum: u32) -> Replayed {
+fn after(
+    rt: &impl Print,
+    p: Progress,
+    row: [u32; 64],
+    made: calls::Made,
+    checksum: u32,
+) -> io::Result<Replayed> {
     let voice = made.voice;
     let other = made.row;
     let adds = answers::calls::voice_adds(row);
-    let progress = answers::calls::after(b"modal_voice", p, row, other, adds, checksum);
-    Replayed { voice, progress }
+    let progress = answers::calls::after(rt, b"modal_voice", p, row, other, adds, checksum)?;
+    Ok(Replayed { voice, progress })
 }
 
 // After a read that was no whole call.
@@ -36,34 +45,40 @@ fn ended(before: Replayed, checksum: u32, read: usize) -> Replayed {
 }
 
 // One call more, if there is one.
-fn step(fd: i32, before: Replayed) -> Replayed {
+fn step<R: io::Read>(rt: &impl Print, reader: &mut R, before: Replayed) -> io::Result<Replayed> {
     let p = before.progress;
     if p.read != 256 {
-        return before;
+        return Ok(before);
     }
-    let call = answers::calls::next(fd, p.checksum);
+    let call = answers::calls::next(reader, p.checksum)?;
     if call.read != 256 {
-        return ended(before, call.checksum, call.read);
+        return Ok(ended(before, call.checksum, call.read));
     }
     let row = call.row;
     let voice = before.voice;
-    after(p, row, calls::again(voice, row), call.checksum)
+    let made = calls::again(voice, row);
+    after(rt, p, row, made, call.checksum)
 }
 
 // Every call, up to 65,536.
-fn read_all(fd: i32, begun: Replayed) -> Replayed {
+fn read_all<R: io::Read>(rt: &impl Print, reader: &mut R, begun: Replayed) -> io::Result<Replayed> {
     let mut p = begun;
     let mut i: u32 = 0;
     while i < 65536 {
-        p = step(fd, p);
+        p = step(rt, reader, p)?;
         i += 1;
     }
-    p
+    Ok(p)
 }
 
 // The calls from a header on, and what was compared.
-pub fn replay(fd: i32, stated: u32, checksum: u32) {
-    let all = read_all(fd, begin(checksum));
+pub fn replay<R: io::Read>(
+    rt: &impl Print,
+    reader: &mut R,
+    stated: u32,
+    checksum: u32,
+) -> io::Result<()> {
+    let all = read_all(rt, reader, begin(checksum))?;
     let p = all.progress;
-    answers::calls::report(b"modal_voice", b"modals.bin", p, stated);
+    answers::calls::report(rt, b"modal_voice", b"modals.bin", p, stated)
 }

@@ -1,101 +1,90 @@
 // Asks the port every question of the records again, and prints what was compared and how much differed.
-use answers::{draws, format, print};
+#![tactic(auto)]
 
-fn main() {
-    leaves();
-    strings();
-    modals();
-    banks();
+use answers::{draws, format, print};
+use std::rt::Files;
+use std::{fs, io};
+
+fn main(rt: HostRuntime) -> io::Result<()> {
+    leaves(&rt)?;
+    strings(&rt)?;
+    modals(&rt)?;
+    banks(&rt)
 }
 
 // The leaves, function by function.
-fn leaves() {
-    let f = opened(b"leaves.bin");
-    if f.whole {
-        leaf_answers::replay(f.fd, f.stated, f.checksum);
-        libc::close(f.fd);
+fn leaves(rt: &(impl Files + Print)) -> io::Result<()> {
+    match opened(rt, "leaves.bin")? {
+        Some(mut f) => leaf_answers::replay(rt, &mut f.file, f.stated, f.checksum),
+        None => Ok(()),
     }
 }
 
 // The string voice, sequence by sequence.
-fn strings() {
-    let f = opened(b"strings.bin");
-    if f.whole {
-        string_answers::replay(f.fd, f.stated, f.checksum);
-        libc::close(f.fd);
+fn strings(rt: &(impl Files + Print)) -> io::Result<()> {
+    match opened(rt, "strings.bin")? {
+        Some(mut f) => string_answers::replay(rt, &mut f.file, f.stated, f.checksum),
+        None => Ok(()),
     }
 }
 
 // The modal voice, sequence by sequence.
-fn modals() {
-    let f = opened(b"modals.bin");
-    if f.whole {
-        modal_answers::replay(f.fd, f.stated, f.checksum);
-        libc::close(f.fd);
+fn modals(rt: &(impl Files + Print)) -> io::Result<()> {
+    match opened(rt, "modals.bin")? {
+        Some(mut f) => modal_answers::replay(rt, &mut f.file, f.stated, f.checksum),
+        None => Ok(()),
     }
 }
 
 // The bank, list by list.
-fn banks() {
-    let f = opened(b"banks.bin");
-    if f.whole {
-        bank_answers::replay(f.fd, f.stated, f.checksum);
-        libc::close(f.fd);
+fn banks(rt: &(impl Files + Print)) -> io::Result<()> {
+    match opened(rt, "banks.bin")? {
+        Some(mut f) => bank_answers::replay(rt, &mut f.file, f.stated, f.checksum),
+        None => Ok(()),
     }
 }
 
-// A file after its header: whether that is whole, the number of records that it states, and its digest.
-#[derive(Clone, Copy)]
-struct File {
-    fd: i32,
-    whole: bool,
+// A file after its whole header: the number of records that it states, and its digest.
+#[derive(Drop)]
+struct File<F> {
+    file: F,
     stated: u32,
     checksum: u32,
 }
 
-// A file without a whole header, which is closed.
-fn no_file() -> File {
-    File {
-        fd: -1,
-        whole: false,
-        stated: 0,
-        checksum: 0,
+// Opens the file of that name and reads its header; none where it cannot be opened or has no whole header.
+fn opened<R: Files + Print>(rt: &R, name: &str) -> io::Result<Option<File<R::File>>> {
+    match fs::open(rt, name) {
+        Ok(file) => header_of(rt, file),
+        Err(_) => {
+            print::say(rt, name.as_bytes())?;
+            print::say(rt, b" cannot be opened\n")?;
+            Ok(None)
+        }
     }
 }
 
-// Opens the file of that name and reads its header.
-fn opened(name: &[u8]) -> File {
-    let fd = os::open_read(name);
-    if fd < 0 {
-        print::say(name);
-        print::say(b" cannot be opened\n");
-        return no_file();
-    }
-    header_of(fd)
-}
-
-// Reads a header and prints its text.
-fn header_of(fd: i32) -> File {
+// Reads a header and prints its text; none where it is not whole.
+fn header_of<F: io::Read + Drop>(rt: &impl Print, mut file: F) -> io::Result<Option<File<F>>> {
     let mut header = [0u8; 128];
-    let r = format::read_bytes(fd, &mut header, draws::digest_begin());
+    let r = format::read_bytes(&mut file, &mut header, draws::digest_begin())?;
     if r.read != 128 {
-        print::say(b"the file is shorter than its header\n");
-        libc::close(fd);
-        return no_file();
+        print::say(rt, b"the file is shorter than its header\n")?;
+        return Ok(None);
     }
-    File {
-        fd,
-        whole: true,
-        stated: header_line(&header),
+    let stated = header_line(rt, &header)?;
+    Ok(Some(File {
+        file,
+        stated,
         checksum: r.checksum,
-    }
+    }))
 }
 
 // Prints the header's text, and gives the number of records that it states.
-fn header_line(header: &[u8]) -> u32 {
+fn header_line(rt: &impl Print, header: &[u8]) -> io::Result<u32> {
     let length = format::text_length(header);
     let text = &header[..length];
-    print::say(text);
-    print::say(b"\n");
-    format::trailing_number(text)
+    print::say(rt, text)?;
+    print::say(rt, b"\n")?;
+    Ok(format::trailing_number(text))
 }

@@ -1,9 +1,12 @@
 // The sequences of the string voice: every recorded call is made again.
+#![tactic(auto)]
+
 mod calls;
 
 ghost use Rattle.std.specs.Prelude.{◌≡◌, length};
 
 use answers::calls::Progress;
+use std::io;
 use string_voice::string_voice::StringVoice;
 
 // What was compared so far, and the voice as the last call left it.
@@ -21,12 +24,18 @@ fn begin(checksum: u32) -> Replayed {
 }
 
 // After a whole call, made again.
-fn after(p: Progress, row: [u32; 64], made: calls::Made, checksum: u32) -> Replayed {
+fn after(
+    rt: &impl Print,
+    p: Progress,
+    row: [u32; 64],
+    made: calls::Made,
+    checksum: u32,
+) -> io::Result<Replayed> {
     let voice = made.voice;
     let other = made.row;
     let adds = answers::calls::voice_adds(row);
-    let progress = answers::calls::after(b"string_voice", p, row, other, adds, checksum);
-    Replayed { voice, progress }
+    let progress = answers::calls::after(rt, b"string_voice", p, row, other, adds, checksum)?;
+    Ok(Replayed { voice, progress })
 }
 
 // After a read that was no whole call.
@@ -38,37 +47,48 @@ fn ended(before: Replayed, checksum: u32, read: usize) -> Replayed {
 }
 
 // One call more, if there is one.
-fn step(fd: i32, before: Replayed, lines: &mut [f32]) -> Replayed
+fn step<R: io::Read>(
+    rt: &impl Print,
+    reader: &mut R,
+    before: Replayed,
+    lines: &mut [f32],
+) -> io::Result<Replayed>
     requires { length lines.old ≡ 1280 }
 {
     let p = before.progress;
     if p.read != 256 {
-        return before;
+        return Ok(before);
     }
-    let call = answers::calls::next(fd, p.checksum);
+    let call = answers::calls::next(reader, p.checksum)?;
     if call.read != 256 {
-        return ended(before, call.checksum, call.read);
+        return Ok(ended(before, call.checksum, call.read));
     }
     let row = call.row;
     let voice = before.voice;
-    after(p, row, calls::again(voice, row, lines), call.checksum)
+    let made = calls::again(voice, row, lines);
+    after(rt, p, row, made, call.checksum)
 }
 
 // Every call, up to 65,536.
-fn read_all(fd: i32, begun: Replayed) -> Replayed {
+fn read_all<R: io::Read>(rt: &impl Print, reader: &mut R, begun: Replayed) -> io::Result<Replayed> {
     let mut lines = [0.0f32; 1280];
     let mut p = begun;
     let mut i: u32 = 0;
     while i < 65536 {
-        p = step(fd, p, &mut lines);
+        p = step(rt, reader, p, &mut lines)?;
         i += 1;
     }
-    p
+    Ok(p)
 }
 
 // The calls from a header on, and what was compared.
-pub fn replay(fd: i32, stated: u32, checksum: u32) {
-    let all = read_all(fd, begin(checksum));
+pub fn replay<R: io::Read>(
+    rt: &impl Print,
+    reader: &mut R,
+    stated: u32,
+    checksum: u32,
+) -> io::Result<()> {
+    let all = read_all(rt, reader, begin(checksum))?;
     let p = all.progress;
-    answers::calls::report(b"string_voice", b"strings.bin", p, stated);
+    answers::calls::report(rt, b"string_voice", b"strings.bin", p, stated)
 }
