@@ -11,13 +11,14 @@ SHELL := bash
 .SHELLFLAGS := -o pipefail -c
 
 libraries := target/staticlib
-sources := crates.txt $(shell find crates -path '*/must-fail' -prune -o \( -name '*.rt' -o -name '*.antt' \) -print)
+sources := crates.txt $(wildcard HANDLES) $(shell find crates \( -path '*/must-fail' -o -path '*/out' \) -prune -o \( -name '*.rt' -o -name '*.antt' \) -print)
 
-# A library is proved and built again only where a source has changed.
+# A library is proved and built again only where a source has changed. It is kept apart from the crate's folder out/, which rt ci clears.
 $(libraries)/lib%.a: $(sources)
 	@echo "proving and building $*: some minutes the first time"
-	@mkdir -p target
-	@rt staticlib $* 2>&1 | tee target/staticlib.log | grep '^rt: ' || { tail -n 30 target/staticlib.log; exit 1; }
+	@mkdir -p $(libraries)
+	@(cd crates/$* && rt lib) 2>&1 | tee $(libraries)/$*.log | sed -n '/^rt: /p' || { tail -n 30 $(libraries)/$*.log; exit 1; }
+	@cp crates/$*/out/lib$*.a $@.new && mv $@.new $@
 
 render: $(libraries)/libbank_abi.a
 	@host/cargo build --quiet --release -p bleidhvan

@@ -10,7 +10,7 @@ fn main() {
     println!("cargo::rerun-if-changed={}", library.display());
     if !library.exists() {
         println!(
-            "cargo::error=the proved library is not built: run 'rt staticlib bank_abi' in the repository first"
+            "cargo::error=the proved library is not built: run 'make target/staticlib/libbank_abi.a' in the repository first"
         );
         return;
     }

@@ -1,4 +1,4 @@
-//! Points the crate at the Rust source, which is built where it lies and never copied.
+//! Points the crate at the Rust source, which is built where it lies; only its `utils` is copied to the build's own folder.
 //!
 //! The source is the folder that PLAITS_SRC names, either `src` itself or the folder that holds `src`,
 //! and without PLAITS_SRC the folder shared/docs/src/src beside the repository.
@@ -26,7 +26,7 @@ fn main() -> io::Result<()> {
     println!("cargo::rustc-env=PLAITS_FOUND={}", source.display());
     let out = PathBuf::from(env::var_os("OUT_DIR").expect("cargo sets OUT_DIR"));
     let utils = out.join("utils");
-    link_utils(&source.join("utils"), &utils)?;
+    copy_utils(&source.join("utils"), &utils)?;
     fs::write(out.join("modules.rs"), modules(&source, &utils))
 }
 
@@ -52,8 +52,9 @@ fn find_source() -> Option<PathBuf> {
     None
 }
 
-/// Links every file of the source's `utils`, and puts an empty file for each module that it declares but lacks.
-fn link_utils(source: &Path, utils: &Path) -> io::Result<()> {
+/// Copies every file of the source's `utils`, and puts an empty file for each module that it declares but lacks.
+/// They are no links, which rt refuses anywhere in the repository.
+fn copy_utils(source: &Path, utils: &Path) -> io::Result<()> {
     if utils.exists() {
         fs::remove_dir_all(utils)?;
     }
@@ -61,7 +62,7 @@ fn link_utils(source: &Path, utils: &Path) -> io::Result<()> {
     for entry in fs::read_dir(source)? {
         let file = entry?.path();
         if let Some(name) = file.file_name() {
-            std::os::unix::fs::symlink(&file, utils.join(name))?;
+            fs::copy(&file, utils.join(name))?;
         }
     }
     for line in fs::read_to_string(source.join("mod.rs"))?.lines() {
