@@ -1,2 +1,0 @@
--- What the proofs of `resources` share. Assumes nothing.
-pub mod Arms
