@@ -19,6 +19,7 @@ pub struct CosineOut {
 
 impl CosineOscillator {
     // The frequency's distance from a quarter, and the sign of the coefficient.
+    #[tactic(auto, unfolding(crate::specs::CosineOscillator::with_coefficient))]
     fn with_coefficient(self, sign: f32, frequency: f32) -> CosineOscillator
         ensures { result ≡ with_coefficient self sign frequency }
     {
@@ -31,6 +32,7 @@ impl CosineOscillator {
         }
     }
 
+    #[tactic(auto, unfolding(crate::specs::CosineOscillator::approximate))]
     fn init_approximate(self, frequency: f32) -> CosineOscillator
         ensures { result ≡ approximate self frequency }
     {
@@ -44,6 +46,7 @@ impl CosineOscillator {
         }
     }
 
+    #[tactic(auto, unfolding(crate::specs::CosineOscillator::started))]
     fn start(self) -> CosineOscillator
         ensures { result ≡ started self }
     {
@@ -56,6 +59,7 @@ impl CosineOscillator {
     }
 
     // `new` and `init` at the approximate mode.
+    #[tactic(auto, unfolding(crate::specs::CosineOscillator::osc_init))]
     pub fn init(frequency: f32) -> CosineOscillator
         ensures { result ≡ osc_init frequency }
     {
@@ -68,6 +72,7 @@ impl CosineOscillator {
         new.init_approximate(frequency).start()
     }
 
+    #[tactic(auto, unfolding(crate::specs::CosineOscillator::osc_next))]
     pub fn next(self) -> CosineOut
         ensures { result ≡ osc_next self }
     {
@@ -90,9 +95,9 @@ pub fn amplitudes(position: f32) -> [f32; 24]
 {
     let mut mode_amplitude = [0.0; 24];
     let mut oscillator = CosineOscillator::init(position);
-    for i in 0..24 {
+    for amplitude in mode_amplitude.iter_mut() {
         let o = oscillator.next();
-        mode_amplitude[i] = o.out * 0.25;
+        *amplitude = o.out * 0.25;
         oscillator = o.oscillator;
     }
     mode_amplitude

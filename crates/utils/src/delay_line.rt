@@ -13,12 +13,7 @@ pub struct AllpassOut {
 pub fn reset(line: &mut [f32]) -> usize
     ensures { (result, line.new) ≡ cleared line.old }
 {
-    let n = line.len();
-    let mut i = 0;
-    while i < n {
-        line[i] = 0.0;
-        i += 1;
-    }
+    line.fill(0.0);
     0
 }
 
@@ -31,6 +26,7 @@ fn rounded(t: usize, n: usize) -> usize
 }
 
 // What stands at an index taken round the line.
+#[tactic(auto, unfolding(crate::specs::DelayLine::tap))]
 fn read(line: &[f32], t: usize) -> f32
     requires { 0 < length line.now }
     ensures { result ≡ tap line.now t }
@@ -70,6 +66,7 @@ pub fn allpass(
 }
 
 // The line through two neighbours.
+#[tactic(auto, unfolding(crate::specs::DelayLine::linear_of))]
 fn linear(a: f32, b: f32, f: f32) -> f32
     ensures { result ≡ linear_of a b f }
 {
@@ -77,6 +74,7 @@ fn linear(a: f32, b: f32, f: f32) -> f32
 }
 
 // The cubic through four neighbours.
+#[tactic(auto, unfolding(crate::specs::DelayLine::cubic_of))]
 fn cubic(xm1: f32, x0: f32, x1: f32, x2: f32, f: f32) -> f32
     ensures { result ≡ cubic_of xm1 x0 x1 x2 f }
 {

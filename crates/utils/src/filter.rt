@@ -30,6 +30,7 @@ pub struct DcBlocker {
 }
 
 impl DcBlocker {
+    #[tactic(auto, unfolding(crate::specs::Filter::dc_init))]
     pub fn init(pole: f32) -> DcBlocker
         ensures { result ≡ dc_init pole }
     {
@@ -41,6 +42,7 @@ impl DcBlocker {
     }
 
     // `process` of one sample, which is the new y.
+    #[tactic(auto, unfolding(crate::specs::Filter::dc_of))]
     pub fn process_sample(self, sample: f32) -> DcBlocker
         ensures { result ≡ dc_of self sample }
     {
@@ -54,13 +56,10 @@ impl DcBlocker {
     pub fn process(self, in_out: &mut [f32]) -> DcBlocker
         ensures { (result, in_out.new) ≡ dc_buffer self in_out.old }
     {
-        let n = in_out.len();
         let mut blocker = self;
-        let mut i = 0;
-        while i < n {
-            blocker = blocker.process_sample(in_out[i]);
-            in_out[i] = blocker.y;
-            i += 1;
+        for sample in in_out.iter_mut() {
+            blocker = blocker.process_sample(*sample);
+            *sample = blocker.y;
         }
         blocker
     }
@@ -130,6 +129,7 @@ impl Passed {
 }
 
 impl Svf {
+    #[tactic(auto, unfolding(crate::specs::Filter::svf_new))]
     pub fn new() -> Svf
         ensures { result ≡ svf_new }
     {
@@ -142,6 +142,7 @@ impl Svf {
         }
     }
 
+    #[tactic(auto, unfolding(crate::specs::Filter::svf_init))]
     pub fn init(self) -> Svf
         ensures { result ≡ svf_init self }
     {
@@ -149,6 +150,7 @@ impl Svf {
             .reset()
     }
 
+    #[tactic(auto, unfolding(crate::specs::Filter::svf_reset))]
     pub fn reset(self) -> Svf
         ensures { result ≡ svf_reset self }
     {
@@ -161,6 +163,7 @@ impl Svf {
         }
     }
 
+    #[tactic(auto, unfolding(crate::specs::Filter::svf_setFQ))]
     pub fn set_f_q(self, f: f32, resonance: f32, approximation: FrequencyApproximation) -> Svf
         ensures { result ≡ svf_setFQ self f resonance approximation }
     {
@@ -176,6 +179,7 @@ impl Svf {
     }
 
     // `process` at the low pass.
+    #[tactic(auto, unfolding(crate::specs::Filter::svf_of))]
     pub fn process(self, in_: f32) -> SvfOut
         ensures { result ≡ svf_of self in_ }
     {
@@ -209,14 +213,13 @@ impl Svf {
     pub fn process_buffer(self, in_: &[f32], out: &mut [f32]) -> Svf
         ensures { (result, out.new) ≡ svf_buffer self in_.now out.old }
     {
-        let n = crate::min_usize(in_.len(), out.len());
+        let n = in_.len().min(out.len());
         let mut svf = self;
-        let mut i = 0;
-        while i < n {
+        // by index: a proof knows nothing of what a zip with `iter_mut` wrote
+        for i in 0..n {
             let o = svf.process(in_[i]);
             out[i] = o.out;
             svf = o.svf;
-            i += 1;
         }
         svf
     }

@@ -31,12 +31,14 @@ pub fn interpolate(index: f32) -> f32
     a + (b - a) * scaled.fractional
 }
 
+#[tactic(auto, unfolding(crate::specs::Utils::one_pole))]
 pub fn one_pole(out: f32, in_: f32, coefficient: f32) -> f32
     ensures { result ≡ one_pole out in_ coefficient }
 {
     out + coefficient * (in_ - out)
 }
 
+#[tactic(auto, unfolding(crate::specs::Utils::crossfade_of))]
 pub fn crossfade(a: f32, b: f32, fade: f32) -> f32
     ensures { result ≡ crossfade_of a b fade }
 {

@@ -21,6 +21,7 @@ impl ParameterInterpolator {
     }
 
     // The Rust's `next` gives the value that it moves to.
+    #[tactic(auto, unfolding(crate::specs::ParameterInterpolator::next_of))]
     pub fn next(self) -> ParameterInterpolator
         ensures { result ≡ next_of self }
     {

@@ -11,14 +11,14 @@ use Rattle.ground.specs.Frames.{scan}
 use Rattle.ground.proofs.Frames.{frames_begin, scan_turn, scan_end}
 use Rattle.utils.proofs.cosine_oscillator.amplitudes.Goals as goal
 
-pub loop-i-init : goal.loop-i-init
-loop-i-init c = frames_begin
+pub loop-amplitude-init : goal.loop-amplitude-init
+loop-amplitude-init c = frames_begin
 
-pub loop-i-preserved : goal.loop-i-preserved
-loop-i-preserved c = scan_turn nan nan c.loop-i.invariant (omega arith) (ap (λ (o : CosineOut). (o.oscillator, o.out ⊗ c0·25)) c.next-o.ensures)
+pub loop-amplitude-preserved : goal.loop-amplitude-preserved
+loop-amplitude-preserved c = scan_turn nan nan c.loop-amplitude.invariant (omega arith) (ap (λ (o : CosineOut). (o.oscillator, o.out ⊗ c0·25)) c.next-o.ensures)
 
 pub returns : goal.returns
 unfolding amplitudes_of
 returns c =
-    ap (λ q. q.1) (scan_end c.loop-i.invariant (omega arith))
+    ap (λ q. q.1) (scan_end c.loop-amplitude.invariant (omega arith))
     ∙ ap (λ (o : CosineOscillator). (scan amplitude_step o (replicate 24 c0) (replicate 24 c0)).1) c.init-oscillator.ensures

@@ -6,11 +6,11 @@ use Rattle.utils.specs.declared.filter.DcBlocker.{DcBlocker}
 use Rattle.ground.proofs.Frames.{frames_begin, scan_turn, scan_end}
 use Rattle.utils.proofs.filter.DcBlocker.process.Goals as goal
 
-pub loop-i-init : goal.loop-i-init
-loop-i-init c = frames_begin
+pub loop-sample-init : goal.loop-sample-init
+loop-sample-init c = frames_begin
 
-pub loop-i-preserved : goal.loop-i-preserved
-loop-i-preserved c = scan_turn nan nan c.loop-i.invariant (omega arith) (ap (λ (d : DcBlocker). (d, d.y)) c.process_sample-blocker.ensures)
+pub loop-sample-preserved : goal.loop-sample-preserved
+loop-sample-preserved c = scan_turn nan nan c.loop-sample.invariant (omega arith) (ap (λ (d : DcBlocker). (d, d.y)) c.process_sample-blocker.ensures)
 
 pub returns : goal.returns
-returns c = scan_end c.loop-i.invariant (omega arith)
+returns c = scan_end c.loop-sample.invariant (omega arith)
