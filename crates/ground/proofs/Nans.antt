@@ -1,8 +1,10 @@
 -- When a float is the NaN, from the tests that tell it. Assumes nothing.
-use Rattle.std.proofs.Common.{◌≡◌, true, false, not, T, sym, refl, ◌∙◌}
+use Rattle.std.proofs.Common.{◌≡◌, ℕ, ◌%◌, ◌<◌, true, not, T, sym, refl, ap, ◌∙◌, lt-ltb}
+use Rattle.std.proofs.lemmas.Float.{le_of_eq, le_left, le_right, T_from_true}
+use Rattle.std.specs.Float.{◌≤ᶠ◌}
 use mathlib.Core.Bool.{false≢true}
-use lib.Ieee.{Float, nan, inf, fin, is_nan, eq, ne}
-use lib.Ieee.Compare.{nan_differs}
+use lib.Ieee.{Float, nan, inf, fin, binary32, of_bits, to_bits, is_nan, eq, fits}
+use lib.Ieee.Bits.{nan_bits_is, nan_bits_above, of_bits-to_bits}
 
 -- what is a NaN is the NaN
 pub is_nan_lem : (x : Float) → is_nan x ≡ true → x ≡ nan
@@ -11,20 +13,19 @@ is_nan_lem nan e = refl
 is_nan_lem (inf s) e = absurd (false≢true e)
 is_nan_lem (fin s m x) e = absurd (false≢true e)
 
--- what equals itself is no NaN
-pub not_nan : (x : Float) → ne x x ≡ false → T (not (is_nan x))
-unfolding is_nan
-not_nan nan e = absurd (false≢true (sym e ∙ nan_differs))
-not_nan (inf s) e = tt
-not_nan (fin s m x) e = tt
+-- the patterns of the NaN, and the one that it has
+pub nan_of_bits : (p : ℕ) → 0x7f80_0000 < p % 0x8000_0000 → of_bits binary32 p ≡ nan
+unfolding of_bits
+nan_of_bits p h = is_nan_lem (of_bits binary32 p) (sym (nan_bits_is binary32 p) ∙ nan_bits_above binary32 p ∙ lt-ltb _ _ h)
+
+pub bits_of_nan : (x : Float) → is_nan x ≡ true → to_bits binary32 x ≡ 0x7fc0_0000
+unfolding to_bits
+bits_of_nan x h = ap (to_bits binary32) (is_nan_lem x h)
 
 -- what are equal are no NaNs
 pub equal_no_nan : (x y : Float) → eq x y ≡ true → T (not (is_nan x)) × T (not (is_nan y))
-unfolding is_nan eq
-equal_no_nan nan y e = absurd (false≢true e)
-equal_no_nan (inf s) nan e = absurd (false≢true e)
-equal_no_nan (inf s) (inf t) e = (tt, tt)
-equal_no_nan (inf s) (fin t n d) e = (tt, tt)
-equal_no_nan (fin s m d) nan e = absurd (false≢true e)
-equal_no_nan (fin s m d) (inf t) e = (tt, tt)
-equal_no_nan (fin s m d) (fin t n f) e = (tt, tt)
+equal_no_nan x y e = let l : x ≤ᶠ y = le_of_eq x y (T_from_true (eq x y) e) in (le_left x y l, le_right x y l)
+
+-- of one pattern there is one float
+pub same_bits : (x y : Float) → T (fits binary32 x) → T (fits binary32 y) → to_bits binary32 x ≡ to_bits binary32 y → x ≡ y
+same_bits x y t u e = sym (of_bits-to_bits binary32 x t) ∙ ap (of_bits binary32) e ∙ of_bits-to_bits binary32 y u

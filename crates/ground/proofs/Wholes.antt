@@ -183,6 +183,10 @@ above_minus_one (inf false) h = tt
 above_minus_one (fin true m e) h = absurd (no_minus 0 m e h)
 above_minus_one (fin false m e) h = lt→ltb 0 (1 * down e + m * up e * 1) (omega (arith, down_pos e))
 
+pub below_two_to64 : (x : Float) → lt x two_to64 ≡ true → T (lt x (fin false 1 (pos 64)))
+unfolding of_bits
+below_two_to64 x h = passes (lt x two_to64) h
+
 pub cut : (x : Float) → le c1 x ≡ true → lt x two_to23 ≡ true → Cut (to_bits binary32 x) x
 unfolding of_bits
 cut nan h k = absurd (false≢true (unfold le in h))
@@ -384,3 +388,10 @@ both_true false b h = absurd (false≢true h)
 
 pub guessed : (n : ℕ) → (leb 1 n && ltb n 8388608) ≡ true → (0 < n) × (n < 2 ^ 23)
 guessed n h = let t = both_true (leb 1 n) (ltb n 8388608) h in (leb→le 1 n (passes (leb 1 n) t.0), ltb-true n 8388608 t.1)
+
+-- ---- what the functions over a float's whole part cite
+pub ruleset truncates = (above_minus_one, below_two_to64, short)
+
+pub ruleset splits = (truncates, cut_parts, whole_parts, past_parts, low_parts)
+
+pub ruleset guesses = (guessed, both_true, near_parts)

@@ -1,12 +1,13 @@
 -- Laws on plain numbers: a product of two words, what `compare` gives, and a word's digits from its leading zeros. Assumes nothing.
-use Rattle.std.proofs.Common.{◌≡◌, ℕ, zero, suc, ◌+◌, ◌-◌, ◌*◌, ◌/◌, ◌%◌, ◌^◌, ◌<◌, ◌≤◌, pos, sym, ap, ◌∙◌, subst, le_trans, le_of_eq, le_refl, lt_of_lt_of_le, le_of_suc-le-suc, not-suc-le-zero, lt_of_le_of_lt, le_of_lt, mod-eq_of_lt, zero-lt-suc, mul_assoc, mul-le-mul_left, mul-lt-mul_of_pos_right, pow-suc, lt_of_not-le, sub-add_cancel, not-le_of_lt, arith, pow_pos, pow_mono, pow-add}
+use Rattle.std.proofs.Common.{◌≡◌, ℕ, zero, suc, ◌+◌, ◌-◌, ◌*◌, ◌/◌, ◌%◌, ◌^◌, ◌<◌, ◌≤◌, T, pos, le→leb, sym, ap, ◌∙◌, subst, le_trans, le_of_eq, le_refl, lt_of_lt_of_le, le_of_suc-le-suc, not-suc-le-zero, lt_of_le_of_lt, le_of_lt, mod-eq_of_lt, zero-lt-suc, mul_assoc, mul-le-mul_left, mul-lt-mul_of_pos_right, pow-suc, lt_of_not-le, sub-add_cancel, not-le_of_lt, arith, pow_pos, pow_mono, pow-add}
+use Rattle.std.proofs.Math.Nat.{div-eq_of_eq-mul_right}
 use mathlib.Core.Path.{subst⁻¹}
 use Prim.Native.Nat.compare
 use Prim.Native.Nat.{Ordering}
 use Prim.Native.Nat.{compare}
 use native.Mathlib.Decide.{dec_lt}
 use lib.Count.{count_leading_zeros, leading_unique}
-use lib.Ieee.{Float, binary32, of_int, size, nearest}
+use lib.Ieee.{binary32, size, nearest, in_float}
 use lib.Ieee.Digits.{size-lt, size-le, size_reaches}
 use lib.Ieee.Fits.{nearest-le, kept-lt}
 use lib.Ieee.Nearest.{closest, closest_same}
@@ -88,6 +89,11 @@ pub rounded_le : (w : ℕ) → closest w (unit_of w) ≤ 2 ^ 24
 unfolding unit_of
 rounded_le w = le_trans (nearest-le (w / 2 ^ (size w - 24)) (compare (w % 2 ^ (size w - 24) * 2) (2 ^ (size w - 24)))) (kept-lt 24 w)
 
+-- its digits are those of a float
+pub digits_exact : (w : ℕ) → w < 2 ^ 32 → 2 ^ 24 ≤ w → T (in_float binary32 (pos (closest w (2 ^ (8 - count_leading_zeros 32 w)))))
+unfolding in_float
+digits_exact w h l = rw (wide w h l).unit (le→leb _ (2 ^ 24) (rounded_le w))
+
 -- ---- rounding to units of 256: what is above half of a unit carries, and half of one where the number is odd
 carried : (s : ℕ) → (s + 127 + s / 256 % 2) / 256 ≡ closest s 256
 carried s = go (dec_lt (s % 256 * 2) 256) (dec_lt 256 (s % 256 * 2))
@@ -107,8 +113,8 @@ shifted w z s few room e =
     ∙ mul_assoc w (2 ^ z) (2 ^ (8 - z))
     ∙ ap (λ (x : ℕ). w * x) (sym (pow-add 2 z (8 - z)) ∙ ap (λ (x : ℕ). 2 ^ x) k))
 
--- ---- the arms of the unit: zeros z are k
-pub unit_arm : (z k : ℕ) (x : Float) → z < 8 → z % 8 ≡ k → x ≡ of_int binary32 (pos (2 ^ (8 - k))) → x ≡ of_int binary32 (pos (2 ^ (8 - z)))
-unit_arm z k x h e f =
-    let g : k ≡ z = omega arith in
-    f ∙ ap (λ (j : ℕ). of_int binary32 (pos (2 ^ (8 - j)))) g
+-- 256 halved z times
+pub halved : (z : ℕ) → z < 8 → 256 / 2 ^ z ≡ 2 ^ (8 - z)
+halved z h =
+    let e : z + (8 - z) ≡ 8 = omega arith in
+    div-eq_of_eq-mul_right (pow_pos z) (ap (λ (n : ℕ). 2 ^ n) (sym e) ∙ pow-add 2 z (8 - z))

@@ -4,31 +4,29 @@ ghost use Rattle.std.specs.Float.{binary32};
 ghost use Rattle.ground.specs.Floats.{same_float};
 
 // The float of a pattern; every NaN pattern is the one NaN.
+#[tactic(auto, using(std::proofs::lemmas::Float::not_nan_f32_bits, crate::proofs::Nans::nan_of_bits))]
 pub fn float_of(pattern: u32) -> f32
     ensures { result ≡ from_bits binary32 pattern }
 {
-    if pattern % 2147483648 > 2139095040 {
-        return 0.0 / 0.0;
+    if pattern % 0x8000_0000 > 0x7f80_0000 {
+        f32::NAN
+    } else {
+        f32::from_bits(pattern)
     }
-    f32::from_bits(pattern)
 }
 
-// The pattern of a float; the NaN has one, 0x7fc00000.
+// The pattern of a float; the NaN has one.
+#[tactic(auto, using(crate::proofs::Nans::bits_of_nan))]
 pub fn pattern_of(x: f32) -> u32
     ensures { result ≡ to_bits binary32 x }
 {
-    if x != x {
-        return 2143289344;
-    }
-    f32::to_bits(x)
+    if x.is_nan() { 0x7fc0_0000 } else { x.to_bits() }
 }
 
 // Whether x and y are one float: they are equal, and zeros have one sign.
+#[tactic(auto, using(crate::proofs::Nans::equal_no_nan, crate::proofs::Nans::same_bits))]
 pub fn same(x: f32, y: f32) -> bool
     ensures { (result ≡ same_float x y) × (result ≡ true → x ≡ y) }
 {
-    if x == y {
-        return f32::to_bits(x) == f32::to_bits(y);
-    }
-    false
+    x == y && x.to_bits() == y.to_bits()
 }

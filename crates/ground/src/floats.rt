@@ -13,15 +13,18 @@ pub struct Parts {
 
 // The whole part from the f32's own bits: its 24 digits, shifted by its exponent.
 pub fn cut(x: f32) -> u32
-    requires { (le c1 x ≡ true) × (lt x two_to23 ≡ true) }
-    ensures { (result ≡ to_unsigned 64 x) × (result ≤ 2 ^ 24) }
+    requires least { le c1 x ≡ true }
+    requires most { lt x two_to23 ≡ true }
+    ensures whole { result ≡ to_unsigned 64 x }
+    ensures small { result ≤ 2 ^ 24 }
 {
-    let bits = f32::to_bits(x);
+    let bits = x.to_bits();
     let digits = bits % 8388608 + 8388608;
     digits >> (150 - bits / 8388608)
 }
 
 // `x as usize`, and 0 from 2^64 on.
+#[tactic(auto, using(crate::proofs::Wholes::truncates), unfolding(crate::specs::Floats::whole_part))]
 pub fn whole_part(x: f32) -> usize
     ensures { result ≡ whole_part x }
 {
@@ -37,6 +40,7 @@ pub fn whole_part(x: f32) -> usize
 }
 
 // The whole part, and x less it; both are 0 from 2^64 on.
+#[tactic(auto, using(crate::proofs::Wholes::splits))]
 pub fn split(x: f32) -> Parts
     ensures { result ≡ split_of x }
 {
@@ -67,6 +71,7 @@ pub fn split(x: f32) -> Parts
 }
 
 // `split`, where the whole part was guessed: a right guess is told by two comparisons, and what follows need not wait for x.
+#[tactic(auto, using(crate::proofs::Wholes::guesses))]
 pub fn split_near(x: f32, guess: usize) -> Parts
     ensures { result ≡ split_of x }
 {
@@ -83,45 +88,34 @@ pub fn split_near(x: f32, guess: usize) -> Parts
     split(x)
 }
 
+#[tactic(auto, unfolding(crate::specs::Floats::fraction_of))]
 pub fn fraction(x: f32) -> f32
     ensures { result ≡ fraction_of x }
 {
     split(x).fractional
 }
 
-// f32::min: the other one where one is a NaN.
+// f32::min: the other one where one is a NaN. std's leaves open which zero it gives.
+#[tactic(auto, unfolding(crate::specs::Floats::min_f))]
 pub fn min(x: f32, y: f32) -> f32
     ensures { result ≡ min_f x y }
 {
-    if x < y {
-        return x;
-    }
-    if y != y { x } else { y }
+    if x < y || y.is_nan() { x } else { y }
 }
 
-// f32::clamp: a NaN stays a NaN.
+// f32::clamp: a NaN stays a NaN. std's asks for ends in order.
+#[tactic(auto, unfolding(crate::specs::Floats::clamp_f))]
 pub fn clamp(x: f32, lo: f32, hi: f32) -> f32
     ensures { result ≡ clamp_f x lo hi }
 {
-    let mut y = x;
-    if y < lo {
-        y = lo;
-    }
-    if y > hi {
-        y = hi;
-    }
-    y
+    let y = if x < lo { lo } else { x };
+    if y > hi { hi } else { y }
 }
 
 // f32::abs
+#[tactic(auto, using(crate::proofs::Signs::without_sign))]
 pub fn abs(x: f32) -> f32
     ensures { result ≡ abs_f x }
 {
-    if x < 0.0 {
-        return -x;
-    }
-    if x == 0.0 {
-        return 0.0;
-    }
-    x
+    x.abs()
 }

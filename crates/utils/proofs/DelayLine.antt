@@ -1,12 +1,13 @@
 -- The shared laws of the delay lines, over the size: an index whose delay was taken round the line first reads what the index itself does. Assumes nothing.
-use mathlib.Core.Path.{◌≡◌}
+use mathlib.Core.Path.{◌≡◌, ap}
 use mathlib.Core.List.{List}
 use Prim.Native.Nat.{ℕ, ◌+◌, ◌-◌, ◌*◌, ◌/◌, ◌%◌, ◌<◌}
 use native.Mathlib.Nat.{add-mul-mod_self_left, div-add-mod}
 use native.Mathlib.Omega.{arith}
 use lib.ListN.{length}
 use lib.Ieee.{Float}
-use Rattle.ground.specs.Floats.{whole_part, fraction_of}
+use Rattle.ground.specs.declared.floats.Parts.{Parts}
+use Rattle.ground.specs.Floats.{whole_part, fraction_of, split_of}
 use Rattle.utils.specs.DelayLine.{tap, linear_of, cubic_of, read_frac, read_hermite}
 
 module _ (line : List Float) where
@@ -18,21 +19,27 @@ module _ (line : List Float) where
       let turns : u ≡ t + n * (delay / n) = omega (arith, div-add-mod delay n) in
       rw (turns, add-mul-mod_self_left)
 
-  -- ---- the reads: at is the write place, d the delay's whole part, w that taken round, f its fraction
-  pub read_frac_lem : (at d w : ℕ) (delay f a b r : Float) → d ≡ whole_part delay → f ≡ fraction_of delay → w ≡ d % length line
-      → a ≡ tap line (at + w) → b ≡ tap line (at + w + 1) → r ≡ linear_of a b f → r ≡ read_frac line at delay
+  -- ---- the reads: at is the write place, p the delay's parts, w its whole part taken round
+  pub read_frac_lem : (at w : ℕ) (p : Parts) (delay a b r : Float) → p ≡ split_of delay → w ≡ p.integral % length line
+      → a ≡ tap line (at + w) → b ≡ tap line (at + w + 1) → r ≡ linear_of a b p.fractional → r ≡ read_frac line at delay
   unfolding read_frac
-  read_frac_lem at d w delay f a b r de fe we ae be e =
+  read_frac_lem at w p delay a b r pe we ae be e =
+      let d = p.integral in
+      let de : d ≡ whole_part delay = ap (λ (q : Parts). q.integral) pe in
+      let fe : p.fractional ≡ fraction_of delay = ap (λ (q : Parts). q.fractional) pe in
       let x = tap_round d w (at + w) (at + d) we (omega arith) in
       let y = tap_round d w (at + w + 1) (at + d + 1) we (omega arith) in
       rw (← de, ← fe, x, y, ← ae, ← be) e
 
-  pub read_hermite_lem : (at d w : ℕ) (delay f h i j k r : Float) → 0 < length line → d ≡ whole_part delay → f ≡ fraction_of delay → w ≡ d % length line
+  pub read_hermite_lem : (at w : ℕ) (p : Parts) (delay h i j k r : Float) → 0 < length line → p ≡ split_of delay → w ≡ p.integral % length line
       → h ≡ tap line (at + w + length line - 1) → i ≡ tap line (at + w + length line) → j ≡ tap line (at + w + length line + 1)
-      → k ≡ tap line (at + w + length line + 2) → r ≡ cubic_of h i j k f → r ≡ read_hermite line at delay
+      → k ≡ tap line (at + w + length line + 2) → r ≡ cubic_of h i j k p.fractional → r ≡ read_hermite line at delay
   unfolding read_hermite
-  read_hermite_lem at d w delay f h i j k r p de fe we he ie je ke e =
+  read_hermite_lem at w p delay h i j k r some pe we he ie je ke e =
       let n = length line in
+      let d = p.integral in
+      let de : d ≡ whole_part delay = ap (λ (q : Parts). q.integral) pe in
+      let fe : p.fractional ≡ fraction_of delay = ap (λ (q : Parts). q.fractional) pe in
       let a = tap_round d w (at + w + n - 1) (at + d + n - 1) we (omega arith) in
       let b = tap_round d w (at + w + n) (at + d + n) we (omega arith) in
       let c = tap_round d w (at + w + n + 1) (at + d + n + 1) we (omega arith) in

@@ -10,12 +10,12 @@ use lib.Pow.{pow-add, pow_mono}
 use borrow.Author.Tests.{le-ltb}
 use denote.Floats.{is_true}
 use lib.Ieee.{Float, nan, inf, fin, binary32, up, down, sum, sub, lt, le, fits, round, of_int, of_bits, to_unsigned}
-use lib.Ieee.Fits.{down_pos}
+use lib.Ieee.Fits.{down_pos, add-fits}
 use lib.Ieee.Exact.{HasValue}
 use lib.Ieee.Back.{round_whole}
 use lib.Ieee.Order.{le_of_values}
 use lib.Ieee.Scale.{round_same}
-use Rattle.ground.specs.F32.{◌⊖◌, ◌⊗◌, c1, c256, two_to15, two_to23, two_to64}
+use Rattle.ground.specs.F32.{◌⊕◌, ◌⊖◌, ◌⊗◌, c1, c128, c256, two_to15, two_to23, two_to64}
 use Rattle.ground.specs.Floats.{whole_part, fraction_of}
 use Rattle.ground.proofs.Rounding.{mul_values, Dyadic, exact, whole_dyadic}
 use Rattle.ground.proofs.Wholes.{reached, under, lt_power, cut_whole, whole_value, no_minus, not_past, short, digits}
@@ -147,3 +147,6 @@ indices (inf false) t h k = absurd (false≢true (unfold lt in k))
 indices (fin true m e) t h k = absurd (no_minus 0 m e h)
 indices (fin false zero e) t h k = absurd (not-le_of_lt (down_pos e) (omega (arith, reached 0 0 e h)))
 indices (fin false (suc m) e) t h k = indices_fin (suc m) e (digits false m e t) (omega (arith, reached 0 (suc m) e h)) (under 15 (suc m) e k)
+
+pub pitch_indices : (semitones : Float) → le c1 (semitones ⊕ c128) ≡ true → lt (semitones ⊕ c128) two_to15 ≡ true → Indices (semitones ⊕ c128)
+pitch_indices semitones h k = indices (semitones ⊕ c128) (add-fits binary32 semitones c128) h k

@@ -20,7 +20,8 @@ pub fn reset(line: &mut [f32]) -> usize
 // An index, taken round a line of n.
 fn rounded(t: usize, n: usize) -> usize
     requires { 0 < n }
-    ensures { (result ≡ t % n) × (result < n) }
+    ensures value { result ≡ t % n }
+    ensures below { result < n }
 {
     t % n
 }

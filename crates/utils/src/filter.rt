@@ -66,6 +66,7 @@ impl DcBlocker {
 }
 
 // OnePole::tan
+#[tactic(auto, using(crate::proofs::Constants::pi_bits, crate::proofs::Constants::dirty_a_bits, crate::proofs::Constants::fast_a_bits, crate::proofs::Constants::fast_b_bits), unfolding(crate::specs::Filter::tan_dirty, crate::specs::Filter::tan_fast))]
 pub fn tan(f: f32, approximation: FrequencyApproximation) -> f32
     ensures { result ≡ tan_of approximation f }
 {

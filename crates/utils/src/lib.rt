@@ -18,6 +18,7 @@ pub fn min_usize(a: usize, b: usize) -> usize
 }
 
 // `interpolate` over the stiffness table of 65, whose size is 64: an index of 1 gives the last entry.
+#[tactic(auto, unfolding(crate::specs::Utils::interpolate_of))]
 pub fn interpolate(index: f32) -> f32
     ensures { result ≡ interpolate_of index }
 {

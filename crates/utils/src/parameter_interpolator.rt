@@ -10,6 +10,7 @@ pub struct ParameterInterpolator {
 }
 
 impl ParameterInterpolator {
+    #[tactic(auto, unfolding(crate::specs::ParameterInterpolator::interpolator_of))]
     pub fn new(state: f32, new_value: f32, size: usize) -> ParameterInterpolator
         requires { size ≤ 2 ^ 24 }
         ensures { result ≡ interpolator_of state new_value size }

@@ -11,10 +11,9 @@ unfolding allpass_of
 returns c =
     let a = c.args in
     let w = c.rounded in
-    let e = c.write-next.ensures in
     rw (
-      ap (λ q. q.0) e,
-      ap (λ q. q.1) e,
+      ap (λ q. q.0) c.write-next.ensures,
+      ap (λ q. q.1) c.write-next.ensures,
       c.read-tapped.ensures,
-      tap_round a.line.now a.delay w.result (a.write_ptr + w.result) (a.write_ptr + a.delay) w.ensures.0 (omega arith),
+      tap_round a.line.now a.delay w.result (a.write_ptr + w.result) (a.write_ptr + a.delay) w.ensures.value (omega arith),
     )
