@@ -10,6 +10,7 @@ pub struct Drawn {
     pub word: u32,
 }
 
+#[tactic(auto, unfolding(crate::specs::Dust::dust_of))]
 pub fn dust(frequency: f32, word: u32) -> Drawn
     ensures { run (dust_of frequency) word ≡ record { value = result.value; word = result.word } }
 {

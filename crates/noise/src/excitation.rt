@@ -24,12 +24,14 @@ pub struct Counts {
 }
 
 // x moved a quarter of the way to 1, as far as the accent says.
+#[tactic(auto, unfolding(crate::specs::Excitation::raised))]
 pub fn raise(accent: f32, x: f32) -> f32
     ensures { result ≡ raised accent x }
 {
     x + 0.25 * accent * (1.0 - x)
 }
 
+#[tactic(auto, unfolding(crate::specs::Excitation::dust_frequency))]
 pub fn dust_frequency(brightness: f32) -> f32
     ensures { result ≡ dust_frequency brightness }
 {
@@ -41,14 +43,11 @@ pub fn dust_frequency(brightness: f32) -> f32
 pub fn fill_dust(f: f32, gain: f32, accent: f32, temp: &mut [f32], word: u32) -> u32
     ensures { run (dusted f gain accent temp.old) word ≡ record { value = temp.new; word = result } }
 {
-    let n = temp.len();
     let mut w = word;
-    let mut i = 0;
-    while i < n {
+    for sample in temp.iter_mut() {
         let d = crate::dust::dust(f, w);
-        temp[i] = d.value * gain * accent;
+        *sample = d.value * gain * accent;
         w = d.word;
-        i += 1;
     }
     w
 }
@@ -57,10 +56,9 @@ pub fn fill_dust(f: f32, gain: f32, accent: f32, temp: &mut [f32], word: u32) ->
 pub fn add_into(in_: &[f32], out: &mut [f32])
     ensures { out.new ≡ added in_.now out.old }
 {
-    let n = utils::min_usize(in_.len(), out.len());
-    let mut i = 0;
-    while i < n {
+    let n = in_.len().min(out.len());
+    // by index: a proof knows nothing of what a zip with `iter_mut` wrote
+    for i in 0..n {
         out[i] += in_[i];
-        i += 1;
     }
 }

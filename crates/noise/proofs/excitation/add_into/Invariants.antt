@@ -1,11 +1,7 @@
 -- `excitation::add_into` meets its contract, by the law of loops over frames.
-use Prim.Native.Nat.{◌-◌}
 use Rattle.ground.proofs.Frames.{Scan}
 use Rattle.noise.specs.Excitation.{add_step}
 use Rattle.noise.proofs.excitation.add_into.Given as goal
 
 abbrev pub invariant-loop-i : goal.invariant-loop-i
 invariant-loop-i l = Scan add_step tt l.in_ l.initial.out l.i tt l.out
-
-abbrev pub decreases-loop-i : goal.decreases-loop-i
-decreases-loop-i l = l.n - l.i

@@ -8,14 +8,14 @@ use Rattle.noise.specs.Dust.{dust_of}
 use Rattle.noise.specs.Excitation.{dusted}
 use Rattle.noise.proofs.excitation.fill_dust.Goals as goal
 
-pub loop-i-init : goal.loop-i-init
-loop-i-init c = frames_begin
+pub loop-sample-init : goal.loop-sample-init
+loop-sample-init c = frames_begin
 
-pub loop-i-preserved : goal.loop-i-preserved
-loop-i-preserved c =
-    let l = c.loop-i in
+pub loop-sample-preserved : goal.loop-sample-preserved
+loop-sample-preserved c =
+    let l = c.loop-sample in
     frames_turn nan nan l.invariant (omega arith) (run_then (dust_of c.args.f) _ l.w c.dust-d.ensures)
 
 pub returns : goal.returns
 unfolding dusted
-returns c = frames_then (λ q. ret q.1) c.loop-i.invariant (omega arith)
+returns c = frames_then (λ q. ret q.1) c.loop-sample.invariant (omega arith)
