@@ -22,13 +22,10 @@ pub extern "C" fn leaves_process_buffer(f: f32, q: f32, in_: &[f32], out: &mut [
 pub extern "C" fn leaves_get_floats(word: u32, out: &mut [f32]) -> u32
     ensures { run (drawn_floats out.old) word ≡ record { value = out.new; word = result } }
 {
-    let n = out.len();
     let mut drawn = word;
-    let mut i = 0;
-    while i < n {
+    for u in out.iter_mut() {
         drawn = ground::random::get_word(drawn);
-        out[i] = ground::random::get_float(drawn);
-        i += 1;
+        *u = ground::random::get_float(drawn);
     }
     drawn
 }
@@ -38,11 +35,10 @@ pub extern "C" fn leaves_get_floats(word: u32, out: &mut [f32]) -> u32
 pub extern "C" fn leaves_semitones_to_ratio(semitones: &[f32], out: &mut [f32])
     ensures { out.new ≡ ratios_of semitones.now out.old }
 {
-    let n = utils::min_usize(semitones.len(), out.len());
-    let mut i = 0;
-    while i < n {
+    let n = semitones.len().min(out.len());
+    // by index: a proof knows nothing of what a zip with `iter_mut` wrote
+    for i in 0..n {
         out[i] = utils::units::semitones_to_ratio(semitones[i]);
-        i += 1;
     }
 }
 
@@ -62,10 +58,9 @@ pub extern "C" fn leaves_read_hermite(
     if 1024 <= write_ptr {
         return;
     }
-    let n = utils::min_usize(delays.len(), out.len());
-    let mut i = 0;
-    while i < n {
-        out[i] = utils::delay_line::read_hermite(&line[0..1024], write_ptr, delays[i]);
-        i += 1;
+    let n = delays.len().min(out.len());
+    // by index: a proof knows nothing of what a zip with `iter_mut` wrote
+    for i in 0..n {
+        out[i] = utils::delay_line::read_hermite(&line[..1024], write_ptr, delays[i]);
     }
 }

@@ -13,13 +13,13 @@ use Rattle.leaves_abi.proofs.leaves_get_floats.Goals as goal
 drew : (w v : ℕ) (u y x : Float) → v ≡ next w → u ≡ float_of v → run (float_step tt x y) w ≡ record { value = (tt, u); word = v }
 drew w v u y x e f = rw (f, e)
 
-pub loop-i-init : goal.loop-i-init
-loop-i-init c = frames_begin
+pub loop-u-init : goal.loop-u-init
+loop-u-init c = frames_begin
 
-pub loop-i-preserved : goal.loop-i-preserved
-loop-i-preserved c =
-    frames_turn nan nan c.loop-i.invariant (omega arith)
+pub loop-u-preserved : goal.loop-u-preserved
+loop-u-preserved c =
+    frames_turn nan nan c.loop-u.invariant (omega arith)
     (drew _ _ _ nan nan c.get_word-drawn.ensures c.get_float.ensures)
 
 pub returns : goal.returns
-returns c = frames_then (λ q. ret q.1) c.loop-i.invariant (omega arith)
+returns c = frames_then (λ q. ret q.1) c.loop-u.invariant (omega arith)

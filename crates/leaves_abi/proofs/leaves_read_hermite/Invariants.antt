@@ -1,5 +1,4 @@
 -- `leaves_read_hermite` meets its contract, by the law of loops over frames.
-use Prim.Native.Nat.{◌-◌}
 use Rattle.utils.specs.DelayLine.{read_hermite}
 use Rattle.ground.specs.Part.{part}
 use Rattle.ground.proofs.Frames.{Scan}
@@ -8,6 +7,3 @@ use Rattle.leaves_abi.proofs.leaves_read_hermite.Given as goal
 
 abbrev pub invariant-loop-i : goal.invariant-loop-i
 invariant-loop-i l = Scan (each (read_hermite (part 0 1024 l.line) l.write_ptr)) tt l.delays l.initial.out l.i tt l.out
-
-abbrev pub decreases-loop-i : goal.decreases-loop-i
-decreases-loop-i l = l.n - l.i

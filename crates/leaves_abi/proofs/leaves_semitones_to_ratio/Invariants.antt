@@ -1,5 +1,4 @@
 -- `leaves_semitones_to_ratio` meets its contract, by the law of loops over frames.
-use Prim.Native.Nat.{◌-◌}
 use Rattle.ground.proofs.Frames.{Scan}
 use Rattle.utils.specs.Units.{semitones_to_ratio}
 use Rattle.leaves_abi.specs.Leaves.{each}
@@ -7,6 +6,3 @@ use Rattle.leaves_abi.proofs.leaves_semitones_to_ratio.Given as goal
 
 abbrev pub invariant-loop-i : goal.invariant-loop-i
 invariant-loop-i l = Scan (each semitones_to_ratio) tt l.semitones l.initial.out l.i tt l.out
-
-abbrev pub decreases-loop-i : goal.decreases-loop-i
-decreases-loop-i l = l.n - l.i
