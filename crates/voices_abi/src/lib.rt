@@ -72,12 +72,10 @@ pub extern "C" fn strings_render(
     };
     let mut voice = StringVoice::new().init(sample_rate_hz, lines);
     let mut drawn = word;
-    let mut i = 0;
-    while i < blocks {
+    for _ in 0..blocks {
         let r = voice.render(k, lines, temp, temp_2, out, aux, drawn);
         voice = r.voice;
         drawn = r.word;
-        i += 1;
     }
     drawn
 }
@@ -127,12 +125,10 @@ pub extern "C" fn modals_render(
     };
     let mut voice = ModalVoice::new().init();
     let mut drawn = word;
-    let mut i = 0;
-    while i < blocks {
+    for _ in 0..blocks {
         let r = voice.render(slow_subnormals, k, temp, temp_2, out, aux, drawn);
         voice = r.voice;
         drawn = r.word;
-        i += 1;
     }
     drawn
 }

@@ -12,46 +12,23 @@ returns-then-not-alike c =
     let a = c.args in
     refused _ _ a.temp.now a.temp_2.now a.out.now a.aux.now a.word (sym c.alike.ensures ∙ c.if-not-alike.true)
 
-pub loop-i-init : goal.loop-i-init
-loop-i-init c =
+pub loop-init : goal.loop-init
+loop-init c =
     let a = c.args in
     begin _ _ _ _ a.word
     (rw (opened_is a.temp.now a.temp_2.now a.out.now a.aux.now _ _ c.new.ensures c.init-voice.ensures) (opened_sized a.temp.now a.temp_2.now a.out.now a.aux.now (sym c.alike.ensures ∙ c.if-not-alike.false)))
 
 pub render-r-requires : goal.render-r-requires
 render-r-requires c =
-    let d = c.loop-i.invariant.kept in
+    let d = c.loop.invariant.kept in
     record { temp2_is = omega (arith, d.temp, d.temp2); out_is = omega (arith, d.temp, d.out); aux_is = omega (arith, d.temp, d.aux) }
 
-pub overflow_add-i : goal.overflow_add-i
-overflow_add-i c = omega (arith, c.loop-i.invariant.within, c.loop-i-test)
-
-pub loop-i-preserved : goal.loop-i-preserved
-loop-i-preserved c =
+pub loop-preserved : goal.loop-preserved
+loop-preserved c =
     let a = c.args in
-    turn _ _ _ (sized_again _ _) _ a.word _ _ _ _ _ c.loop-i.invariant (omega (arith, c.loop-i-test)) (run_then (render_of _ _ _ _ _ _) _ _ c.render-r.ensures)
-
-pub shape_of-temp : goal.shape_of-temp
-shape_of-temp c =
-    let a = c.args in
-    omega (arith, c.loop-i.invariant.kept.temp, (opened_sized a.temp.now a.temp_2.now a.out.now a.aux.now (sym c.alike.ensures ∙ c.if-not-alike.false)).temp)
-
-pub shape_of-temp_2 : goal.shape_of-temp_2
-shape_of-temp_2 c =
-    let a = c.args in
-    omega (arith, c.loop-i.invariant.kept.temp2, (opened_sized a.temp.now a.temp_2.now a.out.now a.aux.now (sym c.alike.ensures ∙ c.if-not-alike.false)).temp2)
-
-pub shape_of-out : goal.shape_of-out
-shape_of-out c =
-    let a = c.args in
-    omega (arith, c.loop-i.invariant.kept.out, (opened_sized a.temp.now a.temp_2.now a.out.now a.aux.now (sym c.alike.ensures ∙ c.if-not-alike.false)).out)
-
-pub shape_of-aux : goal.shape_of-aux
-shape_of-aux c =
-    let a = c.args in
-    omega (arith, c.loop-i.invariant.kept.aux, (opened_sized a.temp.now a.temp_2.now a.out.now a.aux.now (sym c.alike.ensures ∙ c.if-not-alike.false)).aux)
+    turn _ _ _ (sized_again _ _) _ a.word _ _ _ _ _ c.loop.invariant (omega (arith, c.loop-test)) (run_then (render_of _ _ _ _ _ _) _ _ c.render-r.ensures)
 
 pub returns : goal.returns
 returns c =
     let a = c.args in
-    ended _ _ _ _ a.temp.now a.temp_2.now a.out.now a.aux.now a.word _ _ _ (sym c.alike.ensures ∙ c.if-not-alike.false) (opened_is a.temp.now a.temp_2.now a.out.now a.aux.now _ _ c.new.ensures c.init-voice.ensures) c.loop-i.invariant (omega arith)
+    ended _ _ _ _ a.temp.now a.temp_2.now a.out.now a.aux.now a.word _ _ _ (sym c.alike.ensures ∙ c.if-not-alike.false) (opened_is a.temp.now a.temp_2.now a.out.now a.aux.now _ _ c.new.ensures c.init-voice.ensures) c.loop.invariant (omega arith)
