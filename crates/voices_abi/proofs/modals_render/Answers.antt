@@ -26,7 +26,7 @@ render-r-requires c =
 pub loop-preserved : goal.loop-preserved
 loop-preserved c =
     let a = c.args in
-    turn _ _ _ (sized_again _ _) _ a.word _ _ _ _ _ c.loop.invariant (omega (arith, c.loop-test)) (run_then (render_of _ _ _ _ _ _) _ _ c.render-r.ensures)
+    turn _ _ _ (sized_again _ _) _ a.word _ _ _ _ _ c.loop.invariant (omega arith) (run_then (render_of _ _ _ _ _ _) _ _ c.render-r.ensures)
 
 pub returns : goal.returns
 returns c =
