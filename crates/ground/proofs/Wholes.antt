@@ -14,6 +14,7 @@ use lib.Ieee.Back.{round_whole, whole_unique}
 use Rattle.ground.specs.F32.{◌⊖◌, c0, c1, two_to23, two_to64}
 use Rattle.ground.specs.Floats.{whole_part, fraction_of, split_of}
 use Rattle.ground.specs.declared.floats.Parts.{Parts}
+use Rattle.ground.proofs.Bools.{and_true}
 use Rattle.ground.proofs.Words.{size_gt}
 use Rattle.ground.proofs.Rounding.{exact, whole_dyadic}
 
@@ -380,18 +381,12 @@ near_parts x n p q h k =
     let b = near lo (of_int binary32 (pos (n + 1))) x n v w p q a h k in
     rw (not_past x b.1, b.0)
 
--- both tests of a pair
-pub both_true : (a b : Bool) → (a && b) ≡ true → (a ≡ true) × (b ≡ true)
-both_true true true h = (refl, refl)
-both_true true false h = absurd (false≢true h)
-both_true false b h = absurd (false≢true h)
-
 pub guessed : (n : ℕ) → (leb 1 n && ltb n 8388608) ≡ true → (0 < n) × (n < 2 ^ 23)
-guessed n h = let t = both_true (leb 1 n) (ltb n 8388608) h in (leb→le 1 n (passes (leb 1 n) t.0), ltb-true n 8388608 t.1)
+guessed n h = let t = and_true (leb 1 n) (ltb n 8388608) h in (leb→le 1 n (passes (leb 1 n) t.0), ltb-true n 8388608 t.1)
 
 -- ---- what the functions over a float's whole part cite
 pub ruleset truncates = (above_minus_one, below_two_to64, short)
 
 pub ruleset splits = (truncates, cut_parts, whole_parts, past_parts, low_parts)
 
-pub ruleset guesses = (guessed, both_true, near_parts)
+pub ruleset guesses = (guessed, and_true, near_parts)

@@ -1,7 +1,6 @@
--- Laws on plain numbers: a product of two words, what `compare` gives, and a word's digits from its leading zeros. Assumes nothing.
-use Rattle.std.proofs.Common.{◌≡◌, ℕ, zero, suc, ◌+◌, ◌-◌, ◌*◌, ◌/◌, ◌%◌, ◌^◌, ◌<◌, ◌≤◌, T, pos, le→leb, sym, ap, ◌∙◌, subst, le_trans, le_of_eq, le_refl, lt_of_lt_of_le, le_of_suc-le-suc, not-suc-le-zero, lt_of_le_of_lt, le_of_lt, mod-eq_of_lt, zero-lt-suc, mul_assoc, mul-le-mul_left, mul-lt-mul_of_pos_right, pow-suc, lt_of_not-le, sub-add_cancel, not-le_of_lt, arith, pow_pos, pow_mono, pow-add}
+-- Laws on plain numbers: what `compare` gives, and a word's digits from its leading zeros. Assumes nothing.
+use Rattle.std.proofs.Common.{◌≡◌, ℕ, zero, suc, ◌+◌, ◌-◌, ◌*◌, ◌/◌, ◌%◌, ◌^◌, ◌<◌, ◌≤◌, T, pos, le→leb, sym, ap, ◌∙◌, subst, le_trans, le_of_eq, le_refl, lt_of_lt_of_le, le_of_suc-le-suc, not-suc-le-zero, mod-eq_of_lt, zero-lt-suc, mul_assoc, mul-lt-mul_of_pos_right, pow-suc, lt_of_not-le, sub-add_cancel, not-le_of_lt, arith, pow_pos, pow_mono, pow-add}
 use Rattle.std.proofs.Math.Nat.{div-eq_of_eq-mul_right}
-use mathlib.Core.Path.{subst⁻¹}
 use Prim.Native.Nat.compare
 use Prim.Native.Nat.{Ordering}
 use Prim.Native.Nat.{compare}
@@ -11,12 +10,6 @@ use lib.Ieee.{binary32, size, nearest, in_float}
 use lib.Ieee.Digits.{size-lt, size-le, size_reaches}
 use lib.Ieee.Fits.{nearest-le, kept-lt}
 use lib.Ieee.Nearest.{closest, closest_same}
-
--- two words' product
-pub below : (k : ℕ) {a b : ℕ} → a < 2 ^ k → b < 2 ^ k → a * b < 2 ^ (k + k)
-below k {a} {b} ha hb =
-    subst⁻¹ (λ (n : ℕ). a * b < n) (pow-add 2 k k)
-    (lt_of_le_of_lt (mul-le-mul_left a (le_of_lt hb)) (mul-lt-mul_of_pos_right ha (pow_pos k)))
 
 -- ---- what `compare` gives
 pub cmp_lt : (a b : ℕ) → a < b → compare a b ≡ Ordering.lt

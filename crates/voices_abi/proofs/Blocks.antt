@@ -1,12 +1,13 @@
 -- Blocks of a voice: how they begin, go on and end, and what fitting sizes are. Assumes nothing.
 use mathlib.Core.Path.{◌≡◌, refl, ap, ◌∙◌}
-use mathlib.Core.Bool.{Bool, true, false, ◌&&◌}
+use mathlib.Core.Bool.{true, ◌&&◌}
 use Prim.Native.Nat.{ℕ, ◌+◌, ◌≤◌, ◌<◌}
 use native.Mathlib.Numerals.{add-one}
 use native.Mathlib.Omega.{arith}
 use borrow.Author.Tests.{eqb-true, ltb-true}
 use lib.Dec.{eqb, ltb}
 use Rattle.ground.specs.Draw.{Draw, run}
+use Rattle.ground.proofs.Bools.{and_true}
 use Rattle.ground.proofs.Draw.{run_then, Always, always_run}
 use Rattle.voices_abi.specs.Blocks.{times, alike_sizes}
 
@@ -33,12 +34,6 @@ module _ {A : Type 0} (step : A → Draw A) (P : A → Type 0) (n : ℕ) where
   end a₀ w₀ i a w d l = let m : i ≡ n = omega (arith, d.within) in rw m at d.so_far
 
 -- ---- fitting sizes
-pub both : (a b : Bool) → (a && b) ≡ true → (a ≡ true) × (b ≡ true)
-both true true e = (refl, refl)
-both true false e = (refl, e)
-both false true e = (e, refl)
-both false false e = (e, e)
-
 pub record Alike (temp temp2 out aux : ℕ) : Type 0 where
   pub temp_is : temp ≡ out
   pub temp2_is : temp2 ≡ out
@@ -47,9 +42,9 @@ pub record Alike (temp temp2 out aux : ℕ) : Type 0 where
 
 pub alike : (temp temp2 out aux : ℕ) → alike_sizes temp temp2 out aux ≡ true → Alike temp temp2 out aux
 alike temp temp2 out aux e =
-    let q₃ = both (eqb temp out && eqb temp2 out && eqb aux out) (ltb out 4097) e in
-    let q₂ = both (eqb temp out && eqb temp2 out) (eqb aux out) q₃.0 in
-    let q₁ = both (eqb temp out) (eqb temp2 out) q₂.0 in
+    let q₃ = and_true (eqb temp out && eqb temp2 out && eqb aux out) (ltb out 4097) e in
+    let q₂ = and_true (eqb temp out && eqb temp2 out) (eqb aux out) q₃.0 in
+    let q₁ = and_true (eqb temp out) (eqb temp2 out) q₂.0 in
     record {
       temp_is = eqb-true temp out q₁.0;
       temp2_is = eqb-true temp2 out q₁.1;

@@ -10,6 +10,7 @@ use lib.ListN.{length, length-replicate}
 use lib.Ieee.{Float}
 use Rattle.ground.specs.F32.{c0}
 use Rattle.ground.specs.Draw.{run}
+use Rattle.ground.proofs.Bools.{and_true}
 use Rattle.ground.proofs.Draw.{run_then, Always, always_bind, draws_always}
 use Rattle.noise.specs.declared.excitation.Knobs.{Knobs}
 use Rattle.string_voice.specs.declared.string_voice.StringVoice.{StringVoice}
@@ -18,7 +19,7 @@ use Rattle.string_voice.specs.StringVoice.{voice_new, voice_init, render_of}
 use Rattle.string_voice.proofs.Drawn.{Left, render_draws}
 use Rattle.voices_abi.specs.Blocks.{times, alike_sizes}
 use Rattle.voices_abi.specs.Strings.{Playing, again, opened, buffers, sizes_fit, blocks_of}
-use Rattle.voices_abi.proofs.Blocks.{Done, end, both, Alike, alike}
+use Rattle.voices_abi.proofs.Blocks.{Done, end, Alike, alike}
 
 -- what a block needs and keeps: the places and every size
 pub record Sized (n : ℕ) (a : Playing) : Type 0 where
@@ -39,7 +40,7 @@ sized_again k n a s =
 -- ---- a new voice's sizes
 module _ (lines temp temp2 out aux : List Float) (fit : sizes_fit (length lines) (length temp) (length temp2) (length out) (length aux) ≡ true) where
   fitting : (eqb (length lines) 1280 ≡ true) × (alike_sizes (length temp) (length temp2) (length out) (length aux) ≡ true)
-  fitting = both (eqb (length lines) 1280) (alike_sizes (length temp) (length temp2) (length out) (length aux)) fit
+  fitting = and_true (eqb (length lines) 1280) (alike_sizes (length temp) (length temp2) (length out) (length aux)) fit
 
   -- the lines were 1,280 from the start
   pub lines_size : length lines ≡ 1280
