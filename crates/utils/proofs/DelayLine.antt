@@ -8,6 +8,7 @@ use lib.ListN.{length}
 use lib.Ieee.{Float}
 use Rattle.ground.specs.declared.floats.Parts.{Parts}
 use Rattle.ground.specs.Floats.{whole_part, fraction_of, split_of}
+use Rattle.utils.specs.Utils.{crossfade_of}
 use Rattle.utils.specs.DelayLine.{tap, linear_of, cubic_of, read_frac, read_hermite}
 
 module _ (line : List Float) where
@@ -21,8 +22,8 @@ module _ (line : List Float) where
 
   -- ---- the reads: at is the write place, p the delay's parts, w its whole part taken round
   pub read_frac_lem : (at w : ℕ) (p : Parts) (delay a b r : Float) → p ≡ split_of delay → w ≡ p.integral % length line
-      → a ≡ tap line (at + w) → b ≡ tap line (at + w + 1) → r ≡ linear_of a b p.fractional → r ≡ read_frac line at delay
-  unfolding read_frac
+      → a ≡ tap line (at + w) → b ≡ tap line (at + w + 1) → r ≡ crossfade_of a b p.fractional → r ≡ read_frac line at delay
+  unfolding read_frac linear_of crossfade_of
   read_frac_lem at w p delay a b r pe we ae be e =
       let d = p.integral in
       let de : d ≡ whole_part delay = ap (λ (q : Parts). q.integral) pe in

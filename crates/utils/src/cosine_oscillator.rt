@@ -25,10 +25,9 @@ impl CosineOscillator {
     {
         let iir_coefficient = sign * frequency * (1.0 - 2.0 * frequency);
         CosineOscillator {
-            y1: self.y1,
-            y0: self.y0,
             iir_coefficient,
             initial_amplitude: iir_coefficient * 0.25,
+            ..self
         }
     }
 
@@ -53,8 +52,7 @@ impl CosineOscillator {
         CosineOscillator {
             y1: self.initial_amplitude,
             y0: 0.5,
-            iir_coefficient: self.iir_coefficient,
-            initial_amplitude: self.initial_amplitude,
+            ..self
         }
     }
 
@@ -79,8 +77,7 @@ impl CosineOscillator {
         let oscillator = CosineOscillator {
             y1: self.y0,
             y0: self.iir_coefficient * self.y0 - self.y1,
-            iir_coefficient: self.iir_coefficient,
-            initial_amplitude: self.initial_amplitude,
+            ..self
         };
         CosineOut {
             oscillator,

@@ -1,6 +1,6 @@
 // Delay line: a lent slice, whose length is MAX_DELAY, and the place that is written next.
 ghost use Rattle.std.specs.Prelude.{◌≡◌, ◌<◌, ◌%◌, length};
-ghost use Rattle.utils.specs.DelayLine.{cleared, tap, written, linear_of, cubic_of, allpass_of, read_frac, read_hermite};
+ghost use Rattle.utils.specs.DelayLine.{cleared, tap, written, cubic_of, allpass_of, read_frac, read_hermite};
 
 // What the all-pass gives, and the next place.
 #[derive(Clone, Copy)]
@@ -66,14 +66,6 @@ pub fn allpass(
     }
 }
 
-// The line through two neighbours.
-#[tactic(auto, unfolding(crate::specs::DelayLine::linear_of))]
-fn linear(a: f32, b: f32, f: f32) -> f32
-    ensures { result ≡ linear_of a b f }
-{
-    a + (b - a) * f
-}
-
 // The cubic through four neighbours.
 #[tactic(auto, unfolding(crate::specs::DelayLine::cubic_of))]
 fn cubic(xm1: f32, x0: f32, x1: f32, x2: f32, f: f32) -> f32
@@ -93,7 +85,7 @@ pub fn read_with_delay_frac(line: &[f32], write_ptr: usize, delay: f32) -> f32
 {
     let delayed = ground::floats::split(delay);
     let t = write_ptr + rounded(delayed.integral, line.len());
-    linear(read(line, t), read(line, t + 1), delayed.fractional)
+    crate::crossfade(read(line, t), read(line, t + 1), delayed.fractional)
 }
 
 // `read_hermite`, where the delay's whole part was guessed.

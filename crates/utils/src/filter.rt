@@ -47,9 +47,9 @@ impl DcBlocker {
         ensures { result ≡ dc_of self sample }
     {
         DcBlocker {
-            pole: self.pole,
             x: sample,
             y: self.y * self.pole + sample - self.x,
+            ..self
         }
     }
 
@@ -156,11 +156,9 @@ impl Svf {
         ensures { result ≡ svf_reset self }
     {
         Svf {
-            g: self.g,
-            r: self.r,
-            h: self.h,
             state_1: 0.0,
             state_2: 0.0,
+            ..self
         }
     }
 
@@ -174,8 +172,7 @@ impl Svf {
             g,
             r,
             h: 1.0 / (1.0 + r * g + g * g),
-            state_1: self.state_1,
-            state_2: self.state_2,
+            ..self
         }
     }
 
@@ -188,11 +185,9 @@ impl Svf {
         let bp = self.g * hp + self.state_1;
         let lp = self.g * bp + self.state_2;
         let svf = Svf {
-            g: self.g,
-            r: self.r,
-            h: self.h,
             state_1: self.g * hp + bp,
             state_2: self.g * bp + lp,
+            ..self
         };
         SvfOut { svf, out: lp }
     }

@@ -18,7 +18,7 @@ pub fn min_usize(a: usize, b: usize) -> usize
 }
 
 // `interpolate` over the stiffness table of 65, whose size is 64: an index of 1 gives the last entry.
-#[tactic(auto, unfolding(crate::specs::Utils::interpolate_of))]
+#[tactic(auto, unfolding(crate::specs::Utils::interpolate_of, crate::specs::Utils::crossfade_of))]
 pub fn interpolate(index: f32) -> f32
     ensures { result ≡ interpolate_of index }
 {
@@ -29,7 +29,7 @@ pub fn interpolate(index: f32) -> f32
     }
     let a = resources::stiffness::lut_stiffness(integral);
     let b = resources::stiffness::lut_stiffness(integral + 1);
-    a + (b - a) * scaled.fractional
+    crossfade(a, b, scaled.fractional)
 }
 
 #[tactic(auto, unfolding(crate::specs::Utils::one_pole))]

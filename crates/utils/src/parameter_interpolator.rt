@@ -28,7 +28,7 @@ impl ParameterInterpolator {
     {
         ParameterInterpolator {
             value: self.value + self.increment,
-            increment: self.increment,
+            ..self
         }
     }
 }

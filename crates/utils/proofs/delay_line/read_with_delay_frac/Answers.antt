@@ -6,4 +6,4 @@ pub returns : goal.returns
 returns c =
     let a = c.args in
     read_frac_lem a.line.now a.write_ptr _ c.split-delayed.result a.delay _ _ _ c.split-delayed.ensures
-    c.rounded.ensures.value c.read.ensures c.read-2.ensures c.linear.ensures
+    c.rounded.ensures.value c.read.ensures c.read-2.ensures c.crossfade.ensures
