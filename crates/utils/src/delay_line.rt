@@ -1,4 +1,5 @@
 // Delay line: a lent slice, whose length is MAX_DELAY, and the place that is written next.
+// The host lends the slice for a call and keeps the place, so the two are parameters and no struct.
 ghost use Rattle.std.specs.Prelude.{◌≡◌, ◌<◌, ◌%◌, length};
 ghost use Rattle.utils.specs.DelayLine.{cleared, tap, written, cubic_of, allpass_of, read_frac, read_hermite};
 
@@ -17,23 +18,13 @@ pub fn reset(line: &mut [f32]) -> usize
     0
 }
 
-// An index, taken round a line of n.
-fn rounded(t: usize, n: usize) -> usize
-    requires { 0 < n }
-    ensures value { result ≡ t % n }
-    ensures below { result < n }
-{
-    t % n
-}
-
 // What stands at an index taken round the line.
 #[tactic(auto, unfolding(crate::specs::DelayLine::tap))]
 fn read(line: &[f32], t: usize) -> f32
     requires { 0 < length line.now }
     ensures { result ≡ tap line.now t }
 {
-    let i = rounded(t, line.len());
-    line[i]
+    line[t % line.len()]
 }
 
 // Stores the sample at the place, and gives the next place, one down.
@@ -56,7 +47,7 @@ pub fn allpass(
     requires { write_ptr < length line.old }
     ensures { (result, line.new) ≡ allpass_of line.old write_ptr sample delay coefficient }
 {
-    let t = write_ptr + rounded(delay, line.len());
+    let t = write_ptr + delay % line.len();
     let tapped = read(line, t);
     let wr = sample + coefficient * tapped;
     let next = write(line, write_ptr, wr);
@@ -84,7 +75,7 @@ pub fn read_with_delay_frac(line: &[f32], write_ptr: usize, delay: f32) -> f32
     ensures { result ≡ read_frac line.now write_ptr delay }
 {
     let delayed = ground::floats::split(delay);
-    let t = write_ptr + rounded(delayed.integral, line.len());
+    let t = write_ptr + delayed.integral % line.len();
     crate::crossfade(read(line, t), read(line, t + 1), delayed.fractional)
 }
 
@@ -95,7 +86,7 @@ pub fn read_hermite_near(line: &[f32], write_ptr: usize, delay: f32, guess: usiz
 {
     let n = line.len();
     let delayed = ground::floats::split_near(delay, guess);
-    let t = write_ptr + rounded(delayed.integral, n) + n;
+    let t = write_ptr + delayed.integral % n + n;
     cubic(
         read(line, t - 1),
         read(line, t),
