@@ -1,10 +1,10 @@
 -- When a float is the NaN, from the tests that tell it. Assumes nothing.
-use Rattle.std.proofs.Common.{◌≡◌, ℕ, ◌%◌, ◌<◌, true, not, T, sym, refl, ap, ◌∙◌, lt-ltb}
+use Rattle.std.proofs.Common.{◌≡◌, true, not, T, sym, refl, ap, ◌∙◌}
 use Rattle.std.proofs.lemmas.Float.{le_of_eq, le_left, le_right, T_from_true}
 use Rattle.std.specs.Float.{◌≤ᶠ◌}
 use mathlib.Core.Bool.{false≢true}
 use lib.Ieee.{Float, nan, inf, fin, binary32, of_bits, to_bits, is_nan, eq, fits}
-use lib.Ieee.Bits.{nan_bits_is, nan_bits_above, of_bits-to_bits}
+use lib.Ieee.Bits.{of_bits-to_bits}
 
 -- what is a NaN is the NaN
 pub is_nan_lem : (x : Float) → is_nan x ≡ true → x ≡ nan
@@ -12,15 +12,6 @@ unfolding is_nan
 is_nan_lem nan e = refl
 is_nan_lem (inf s) e = absurd (false≢true e)
 is_nan_lem (fin s m x) e = absurd (false≢true e)
-
--- the patterns of the NaN, and the one that it has
-pub nan_of_bits : (p : ℕ) → 0x7f80_0000 < p % 0x8000_0000 → of_bits binary32 p ≡ nan
-unfolding of_bits
-nan_of_bits p h = is_nan_lem (of_bits binary32 p) (sym (nan_bits_is binary32 p) ∙ nan_bits_above binary32 p ∙ lt-ltb _ _ h)
-
-pub bits_of_nan : (x : Float) → is_nan x ≡ true → to_bits binary32 x ≡ 0x7fc0_0000
-unfolding to_bits
-bits_of_nan x h = ap (to_bits binary32) (is_nan_lem x h)
 
 -- what are equal are no NaNs
 pub equal_no_nan : (x y : Float) → eq x y ≡ true → T (not (is_nan x)) × T (not (is_nan y))

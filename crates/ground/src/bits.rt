@@ -4,23 +4,17 @@ ghost use Rattle.std.specs.Float.{binary32};
 ghost use Rattle.ground.specs.Floats.{same_float};
 
 // The float of a pattern; every NaN pattern is the one NaN.
-#[tactic(auto, using(std::proofs::lemmas::Float::not_nan_f32_bits, crate::proofs::Nans::nan_of_bits))]
 pub fn float_of(pattern: u32) -> f32
     ensures { result ≡ from_bits binary32 pattern }
 {
-    if pattern % 0x8000_0000 > 0x7f80_0000 {
-        f32::NAN
-    } else {
-        f32::from_bits(pattern)
-    }
+    std::num::f32_from_bits_with_nan(pattern)
 }
 
-// The pattern of a float; the NaN has one.
-#[tactic(auto, using(crate::proofs::Nans::bits_of_nan))]
+// The pattern of a float; the NaN has one, 0x7fc00000.
 pub fn pattern_of(x: f32) -> u32
     ensures { result ≡ to_bits binary32 x }
 {
-    if x.is_nan() { 0x7fc0_0000 } else { x.to_bits() }
+    std::num::f32_to_bits_with_nan(x)
 }
 
 // Whether x and y are one float: they are equal, and zeros have one sign.
