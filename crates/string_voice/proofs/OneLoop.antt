@@ -125,7 +125,7 @@ module _ (k : Knobs) (v s : StringVoice) (lines temp temp2 out aux : List Float)
       → run (excitation k.sustain k s.remaining_noise_samples temp) word ≡ record { value = temp'; word = w }
       → x ≡ amount k.structure → shape ≡ non_linearity x → b ≡ raised k.accent k.brightness → d ≡ raised k.accent k.damping
       → q ≡ prepared_of s.string shape k.f0 b d (length out)
-      → run (frames_of shape q.params s.excitation_filter (q.string, lines) temp' temp2 out aux) w ≡ record {
+      → run (frames_of q.block.shape q.block.params s.excitation_filter (q.string, lines) temp' temp2 out aux) w ≡ record {
         value = record { filter = z; string = t; lines = lines'; temp2 = temp2'; out = out'; aux = aux'; drawn = drawn };
         word = w';
       }
@@ -145,5 +145,5 @@ module _ (k : Knobs) (v s : StringVoice) (lines temp temp2 out aux : List Float)
       let f = s.excitation_filter in
       let e : StringVoice = record { excitation_filter = z; string = s.string; remaining_noise_samples = left } in
       rendered k v lines temp temp2 out aux word
-      (excited k v s temp temp2 aux word es el et (filtered shape q.params f (q.string, lines) temp' temp2 out aux w ef) (mixed shape q.params f (q.string, lines) temp' temp2 out aux w ef) ec)
-      (sounded k e lines temp2' out w ex eh eb ed (processed shape k.f0 b d s.string lines temp2' out w eq (strung_run shape q.params f (q.string, lines) temp' temp2 out aux w ef)))
+      (excited k v s temp temp2 aux word es el et (filtered q.block.shape q.block.params f (q.string, lines) temp' temp2 out aux w ef) (mixed q.block.shape q.block.params f (q.string, lines) temp' temp2 out aux w ef) ec)
+      (sounded k e lines temp2' out w ex eh eb ed (processed shape k.f0 b d s.string lines temp2' out w eq (strung_run q.block.shape q.block.params f (q.string, lines) temp' temp2 out aux w ef)))

@@ -11,7 +11,7 @@ ghost use Rattle.string_voice.specs.OneLoop.{Framed, frames_of, ahead_of};
 
 use noise::excitation::{Counts, Knobs};
 use utils::filter::{FrequencyApproximation, Passed, Svf};
-use waveguide::string::{Live, Params, String, StringNonLinearity};
+use waveguide::string::{Block, Live, String};
 
 // A voice. Its lines are lent: the string line of 1,024 numbers and the stretch line of 256 behind it.
 #[derive(Clone, Copy)]
@@ -39,6 +39,7 @@ pub struct Strung {
 }
 
 // The cutoff of the excitation filter.
+#[tactic(auto, unfolding(crate::specs::StringVoice::cutoff_for, crate::specs::StringVoice::exciter_semitones))]
 fn cutoff_for(k: Knobs) -> f32
     ensures { result ≡ cutoff_for k }
 {
@@ -50,10 +51,7 @@ fn cutoff_for(k: Knobs) -> f32
 fn resonance(sustain: bool) -> f32
     ensures { result ≡ cond sustain c1 c0·5 }
 {
-    if sustain {
-        return 1.0;
-    }
-    0.5
+    if sustain { 1.0 } else { 0.5 }
 }
 
 // Noise in the first m frames, silence behind.
@@ -63,56 +61,46 @@ fn fill_noise(m: usize, temp: &mut [f32], word: u32) -> u32
 {
     utils::delay_line::reset(temp);
     let mut w = word;
-    let mut i = 0;
-    while i < m {
+    for i in 0..m {
         w = ground::random::get_word(w);
         temp[i] = ground::random::noise(w);
-        i += 1;
     }
     w
 }
 
 // Dust where the voice is sustained; else what is left of the noise, and silence behind.
+#[tactic(auto, unfolding(crate::specs::StringVoice::excitation))]
 fn fill_excitation(k: Knobs, left: usize, temp: &mut [f32], word: u32) -> u32
     ensures { run (excitation k.sustain k left temp.old) word ≡ record { value = temp.new; word = result } }
 {
     if k.sustain {
         let f = noise::excitation::dust_frequency(k.brightness);
-        return noise::excitation::fill_dust(f, 8.0 - f * 6.0, k.accent, temp, word);
+        noise::excitation::fill_dust(f, 8.0 - f * 6.0, k.accent, temp, word)
+    } else {
+        fill_noise(left.min(temp.len()), temp, word)
     }
-    let m = utils::min_usize(left, temp.len());
-    fill_noise(m, temp, word)
 }
 
 // What is left of the noise after a block of n.
 fn noise_left(sustain: bool, left: usize, n: usize) -> usize
     ensures { result ≡ cond sustain left (left - min left n) }
 {
-    if sustain {
-        return left;
-    }
-    left - utils::min_usize(left, n)
+    if sustain { left } else { left - left.min(n) }
 }
 
 // The words of the excitation of n frames, where so much is left of the noise.
 fn counts_of(sustain: bool, left: usize, n: usize) -> Counts
     ensures { result ≡ excitation_counts sustain (excitation_words sustain left n) }
 {
-    if sustain {
-        return Counts {
-            burst: 0,
-            dust: n,
-            dispersion: 0,
-        };
-    }
     Counts {
-        burst: utils::min_usize(left, n),
-        dust: 0,
+        burst: if sustain { 0 } else { left.min(n) },
+        dust: if sustain { n } else { 0 },
         dispersion: 0,
     }
 }
 
 // The excitation filter past the first frame.
+#[tactic(auto, unfolding(crate::specs::OneLoop::ahead_of))]
 fn filter_first(s: Svf, temp: &[f32]) -> Passed
     ensures { (result ≡ ahead_of s temp.now 0) × Stays result (get_or temp.now 0 nan) }
 {
@@ -127,6 +115,7 @@ fn filter_first(s: Svf, temp: &[f32]) -> Passed
 }
 
 // The excitation filter past the frame i + 1, where o is the filter past the frame i.
+#[tactic(auto, unfolding(crate::specs::OneLoop::ahead_of))]
 fn filter_on(o: Passed, temp: &[f32], i: usize) -> Passed
     requires { Stays o (get_or temp.now i nan) × (i < length temp.now) }
     ensures { (result ≡ ahead_of o.svf temp.now (i + 1)) × Stays result (get_or temp.now (i + 1) nan) }
@@ -146,8 +135,7 @@ fn filter_on(o: Passed, temp: &[f32], i: usize) -> Passed
 fn sound_frames(
     lines: &mut [f32],
     v: Live,
-    shape: StringNonLinearity,
-    p: Params,
+    block: Block,
     f: Svf,
     temp: &[f32],
     temp_2: &mut [f32],
@@ -155,7 +143,7 @@ fn sound_frames(
     aux: &mut [f32],
 ) -> Strung
     requires { Good (v.string, lines.old) × (length out.old ≤ 2 ^ 24) × Alike temp.now temp_2.old out.old aux.old }
-    ensures { run (frames_of shape p f (v.string, lines.old) temp.now temp_2.old out.old aux.old) v.word ≡ record {
+    ensures { run (frames_of block.shape block.params f (v.string, lines.old) temp.now temp_2.old out.old aux.old) v.word ≡ record {
       value = record {
         filter = result.filter;
         string = result.string;
@@ -168,84 +156,72 @@ fn sound_frames(
       word = result.word;
     } }
 {
-    let n = temp.len();
-    let mut u = waveguide::string::begin(v, p);
+    let mut u = block.begin(v);
     let mut filter = f;
     let mut ahead = filter_first(f, temp);
-    let mut i = 0;
-    while i < n {
+    for i in 0..temp.len() {
         let x = ahead.out;
         temp_2[i] = x;
         aux[i] += x;
-        u = waveguide::string::advance(lines, u, shape, p, x);
+        u = block.advance(lines, u, x);
         ahead = filter_on(ahead, temp, i);
         filter = ahead.svf;
         out[i] = waveguide::string::mix(out[i], u.string);
-        i += 1;
     }
-    let string = u.string;
     Strung {
         filter,
-        string,
+        string: u.string,
         word: u.word,
         drawn: u.drawn,
     }
 }
 
+#[tactic(auto, unfolding(crate::specs::StringVoice::amount))]
 fn amount_for(structure: f32) -> f32
     ensures { result ≡ amount structure }
 {
     if structure < 0.24 {
-        return (structure - 0.24) * 4.166;
+        (structure - 0.24) * 4.166
+    } else if structure > 0.26 {
+        (structure - 0.26) * 1.35135
+    } else {
+        0.0
     }
-    if structure > 0.26 {
-        return (structure - 0.26) * 1.35135;
-    }
-    0.0
 }
 
 impl StringVoice {
+    #[tactic(auto, unfolding(crate::specs::StringVoice::voice_new))]
     pub fn new() -> StringVoice
         ensures { result ≡ voice_new }
     {
-        let excitation_filter = Svf::new();
-        let string = String::new();
         StringVoice {
-            excitation_filter,
-            string,
+            excitation_filter: Svf::new(),
+            string: String::new(),
             remaining_noise_samples: 0,
         }
     }
 
+    #[tactic(auto, unfolding(crate::specs::StringVoice::voice_init))]
     pub fn init(self, sample_rate_hz: f32, lines: &mut [f32]) -> StringVoice
         ensures { (result, lines.new) ≡ voice_init self sample_rate_hz lines.old }
     {
-        let filter = self.excitation_filter;
-        let excitation_filter = filter.init();
-        let old = self.string;
-        let string = old.init(sample_rate_hz, lines);
         StringVoice {
-            excitation_filter,
-            string,
+            excitation_filter: self.excitation_filter.init(),
+            string: self.string.init(sample_rate_hz, lines),
             remaining_noise_samples: 0,
         }
     }
 
+    #[tactic(auto, unfolding(crate::specs::StringVoice::voice_reset))]
     pub fn reset(self, lines: &mut [f32]) -> StringVoice
         ensures { (result, lines.new) ≡ voice_reset self lines.old }
     {
-        let excitation_filter = self.excitation_filter;
-        let old = self.string;
-        let string = old.reset(lines);
-        let left = self.remaining_noise_samples;
-        StringVoice {
-            excitation_filter,
-            string,
-            remaining_noise_samples: left,
-        }
+        let string = self.string.reset(lines);
+        StringVoice { string, ..self }
     }
 
     // With trigger or sustain the noise begins anew and the filter is set.
+    #[tactic(auto, unfolding(crate::specs::StringVoice::struck))]
     fn strike(self, k: Knobs) -> StringVoice
         ensures { result ≡ struck k self }
     {
@@ -254,12 +230,10 @@ impl StringVoice {
         }
         let filter = self.excitation_filter;
         let q = resonance(k.sustain);
-        let excitation_filter = filter.set_f_q(cutoff_for(k), q, FrequencyApproximation::Dirty);
-        let string = self.string;
         StringVoice {
-            excitation_filter,
-            string,
+            excitation_filter: filter.set_f_q(cutoff_for(k), q, FrequencyApproximation::Dirty),
             remaining_noise_samples: ground::floats::whole_part(1.0 / k.f0),
+            ..self
         }
     }
 
@@ -282,14 +256,12 @@ impl StringVoice {
         let left = noise_left(k.sustain, before, temp.len());
         let counts = counts_of(k.sustain, before, temp.len());
         let drawn = fill_excitation(k, before, temp, word);
-        let filter = struck.excitation_filter;
-        let excitation_filter = filter.process_buffer(temp, temp_2);
+        let excitation_filter = struck.excitation_filter.process_buffer(temp, temp_2);
         noise::excitation::add_into(temp_2, aux);
-        let string = struck.string;
         let voice = StringVoice {
             excitation_filter,
-            string,
             remaining_noise_samples: left,
+            ..struck
         };
         Rendered {
             voice,
@@ -316,20 +288,16 @@ impl StringVoice {
         let shape = waveguide::string::non_linearity(amount_for(k.structure));
         let brightness = noise::excitation::raise(k.accent, k.brightness);
         let damping = noise::excitation::raise(k.accent, k.damping);
-        let before = self.string;
-        let live = waveguide::string::Live {
-            string: before,
+        let live = Live {
+            string: self.string,
             word,
         };
         let s = waveguide::string::process(
             lines, live, shape, k.f0, brightness, damping, temp_2, out,
         );
-        let excitation_filter = self.excitation_filter;
-        let string = s.string;
         let voice = StringVoice {
-            excitation_filter,
-            string,
-            remaining_noise_samples: self.remaining_noise_samples,
+            string: s.string,
+            ..self
         };
         let counts = Counts {
             burst: 0,
@@ -378,24 +346,20 @@ impl StringVoice {
         let bright = noise::excitation::raise(k.accent, k.brightness);
         let damped = noise::excitation::raise(k.accent, k.damping);
         let b = waveguide::string::prepare(struck.string, shape, k.f0, bright, damped, out.len());
-        let tuned = b.string;
         let live = Live {
-            string: tuned,
+            string: b.string,
             word: excited,
         };
         let filter = struck.excitation_filter;
-        let s = sound_frames(lines, live, shape, b.params, filter, temp, temp_2, out, aux);
-        let excitation_filter = s.filter;
-        let string = s.string;
+        let s = sound_frames(lines, live, b.block, filter, temp, temp_2, out, aux);
         let voice = StringVoice {
-            excitation_filter,
-            string,
+            excitation_filter: s.filter,
+            string: s.string,
             remaining_noise_samples: left_after,
         };
         let counts = Counts {
-            burst: e.burst,
-            dust: e.dust,
             dispersion: s.drawn,
+            ..e
         };
         Rendered {
             voice,

@@ -27,9 +27,9 @@ prepared_good shape f0 brightness damping n s lines b e g =
 
 module _ (shape : StringNonLinearity) (f0 brightness damping : Float) (s : String) (lines xs ys : List Float) (word : ℕ) where
   pub processed : {b : Prepared} {r : Ran (((String × List Float) × List Float) × ℕ)} → b ≡ prepared_of s shape f0 brightness damping (length ys)
-      → run (counted (frames (frame_of shape b.params) (b.string, lines) xs ys)) word ≡ r → run (counted (strung shape f0 brightness damping (s, lines) xs ys)) word ≡ r
+      → run (counted (frames (frame_of b.block.shape b.block.params) (b.string, lines) xs ys)) word ≡ r → run (counted (strung shape f0 brightness damping (s, lines) xs ys)) word ≡ r
   unfolding strung prepared_of
-  processed eb e = ap (λ (b : Prepared). run (counted (frames (frame_of shape b.params) (b.string, lines) xs ys)) word) (sym eb) ∙ e
+  processed eb e = ap (λ (b : Prepared). run (counted (frames (frame_of b.block.shape b.block.params) (b.string, lines) xs ys)) word) (sym eb) ∙ e
 
 -- a block of n frames: the words that its steps draw, the phase behind it, and the output's length
 abbrev pub ratio_for : Float → Float

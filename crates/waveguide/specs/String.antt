@@ -173,7 +173,7 @@ tuned s f0 d =
 unfoldable pub prepared_of : String → StringNonLinearity → Float → Float → Float → ℕ → Prepared
 prepared_of s shape f0 brightness damping n =
     let d = damping_of f0 brightness damping in
-    record { string = tuned s f0 d; params = params_of s f0 (amount_of shape) d n }
+    record { string = tuned s f0 d; block = record { shape = shape; params = params_of s f0 (amount_of shape) d n } }
 
 -- ---- a string step
 

@@ -50,11 +50,18 @@ pub struct Params {
     pub ap_gain: f32,
 }
 
-// A string tuned for a block, and what the block's knobs come to.
+// What is fixed over a block: the non-linearity, and what the knobs come to.
+#[derive(Clone, Copy)]
+pub struct Block {
+    pub shape: StringNonLinearity,
+    pub params: Params,
+}
+
+// A string tuned for a block, and the block.
 #[derive(Clone, Copy)]
 pub struct Prepared {
     pub string: String,
-    pub params: Params,
+    pub block: Block,
 }
 
 // A string and the generator's word.
@@ -99,37 +106,57 @@ pub struct Heard {
     pub stretch: usize,
 }
 
-// The amount of either.
-fn amount_of(shape: StringNonLinearity) -> f32
-    ensures { result ≡ amount_of shape }
-{
-    match shape {
-        StringNonLinearity::CurvedBridge(a) => a,
-        StringNonLinearity::Dispersion(a) => a,
-    }
-}
-
 // The amount's sign chooses: up to 0 a bridge, above it a dispersion.
+#[tactic(auto, unfolding(crate::specs::String::non_linearity))]
 pub fn non_linearity(amount: f32) -> StringNonLinearity
     ensures { result ≡ non_linearity amount }
 {
     if amount <= 0.0 {
-        return StringNonLinearity::CurvedBridge(-amount);
+        StringNonLinearity::CurvedBridge(-amount)
+    } else {
+        StringNonLinearity::Dispersion(amount)
     }
-    StringNonLinearity::Dispersion(amount)
 }
 
-// How many words a step draws.
-fn words_of(shape: StringNonLinearity) -> usize
-    ensures { result ≡ words_of shape }
-{
-    match shape {
-        StringNonLinearity::CurvedBridge(_) => 0,
-        StringNonLinearity::Dispersion(_) => 1,
+impl StringNonLinearity {
+    // The amount of either.
+    fn amount(self) -> f32
+        ensures { result ≡ amount_of self }
+    {
+        match self {
+            StringNonLinearity::CurvedBridge(a) => a,
+            StringNonLinearity::Dispersion(a) => a,
+        }
+    }
+
+    // How many words a step draws.
+    fn words(self) -> usize
+        ensures { result ≡ words_of self }
+    {
+        match self {
+            StringNonLinearity::CurvedBridge(_) => 0,
+            StringNonLinearity::Dispersion(_) => 1,
+        }
+    }
+
+    // The bridge's curve after a sample.
+    #[tactic(auto, unfolding(crate::specs::String::bridged))]
+    fn curve(self, s: f32, bridge: f32) -> f32
+        ensures { result ≡ bridged self s bridge }
+    {
+        match self {
+            StringNonLinearity::CurvedBridge(_) => {
+                let value = ground::floats::abs(s) - 0.025;
+                let curved = ground::floats::abs(value) + value;
+                curved * if s > 0.0 { 1.0 } else { -1.5 }
+            }
+            StringNonLinearity::Dispersion(_) => bridge,
+        }
     }
 }
 
 // 1/f0, held to what the line holds.
+#[tactic(auto, unfolding(crate::specs::String::delay_of))]
 fn delay_of(f0: f32) -> f32
     ensures { result ≡ delay_of f0 }
 {
@@ -140,12 +167,10 @@ fn delay_of(f0: f32) -> f32
 fn snapped(ratio: f32, x: f32) -> f32
     ensures { result ≡ snap ratio x }
 {
-    if ratio >= 0.9999 {
-        return 1.0;
-    }
-    x
+    if ratio >= 0.9999 { 1.0 } else { x }
 }
 
+#[tactic(auto, unfolding(crate::specs::String::damping_of, crate::specs::String::cutoff_of, crate::specs::String::damping_f))]
 fn damping_of(f0: f32, brightness: f32, damping: f32) -> Damping
     ensures { result ≡ damping_of f0 brightness damping }
 {
@@ -154,20 +179,22 @@ fn damping_of(f0: f32, brightness: f32, damping: f32) -> Damping
     if damping >= 0.95 {
         // Crossfade to infinite decay.
         let to_infinite = 20.0 * (damping - 0.95);
-        return Damping {
+        Damping {
             brightness: brightness + to_infinite * (1.0 - brightness),
             f: f + to_infinite * (0.4999 - f),
             cutoff: cutoff + to_infinite * (128.0 - cutoff),
-        };
-    }
-    Damping {
-        brightness,
-        f,
-        cutoff,
+        }
+    } else {
+        Damping {
+            brightness,
+            f,
+            cutoff,
+        }
     }
 }
 
 // The shift table read at a cutoff.
+#[tactic(auto, unfolding(crate::specs::String::compensation_of))]
 fn compensation_of(cutoff: f32) -> f32
     ensures { result ≡ compensation_of cutoff }
 {
@@ -178,16 +205,19 @@ fn compensation_of(cutoff: f32) -> f32
     a + (b - a) * idx.fractional
 }
 
+#[tactic(auto, unfolding(crate::specs::String::noise_amount_of))]
 fn noise_amount_of(amount: f32) -> f32
     ensures { result ≡ noise_amount_of amount }
 {
-    let mut noise_amount_sqrt = 0.0;
-    if amount > 0.75 {
-        noise_amount_sqrt = 4.0 * (amount - 0.75);
-    }
+    let noise_amount_sqrt = if amount > 0.75 {
+        4.0 * (amount - 0.75)
+    } else {
+        0.0
+    };
     noise_amount_sqrt * noise_amount_sqrt * 0.1
 }
 
+#[tactic(auto, unfolding(crate::specs::String::params_of, crate::specs::String::ratio_of))]
 fn params_of(s: String, f0: f32, amount: f32, d: Damping, n: usize) -> Params
     requires { n ≤ 2 ^ 24 }
     ensures { result ≡ params_of s f0 amount d n }
@@ -208,232 +238,35 @@ fn params_of(s: String, f0: f32, amount: f32, d: Damping, n: usize) -> Params
     }
 }
 
-// The dispersion noise after the word that is drawn next.
-fn noise_after(p: Params, noise: f32, word: u32) -> f32
-    ensures { result ≡ noise_after p noise word }
-{
-    let u = ground::random::get_float(ground::random::get_word(word)) - 0.5;
-    utils::one_pole(noise, u, p.noise_filter)
-}
-
-// The delay and the dispersion noise of a step. That noise was worked out a step ago, so that the line's reading need not wait for it.
-fn bend(
-    shape: StringNonLinearity,
-    p: Params,
-    delay: f32,
-    noise: f32,
-    next_noise: f32,
-    bridge: f32,
-    word: u32,
-) -> Bent
-    requires { next_noise ≡ noise_after p noise word }
-    ensures { (run (bent shape p delay noise bridge) word ≡ record { value = (result.delay, result.dispersion_noise); word = result.word })
-        × (result.next_noise ≡ noise_after p result.dispersion_noise result.word) × (result.guess ≡ guess_of shape result.delay) }
-{
-    match shape {
-        StringNonLinearity::CurvedBridge(_) => {
-            let curved = delay * (1.0 - bridge * p.bridge_curving);
-            Bent {
-                delay: curved,
-                dispersion_noise: noise,
-                word,
-                next_noise,
-                guess: ground::floats::whole_part(curved),
-            }
-        }
-        StringNonLinearity::Dispersion(_) => {
-            let drawn = ground::random::get_word(word);
-            Bent {
-                delay: delay * (1.0 + next_noise * p.noise_amount),
-                dispersion_noise: next_noise,
-                word: drawn,
-                next_noise: noise_after(p, next_noise, drawn),
-                guess: 0,
-            }
-        }
-    }
-}
-
 // The string line read by the cubic.
+#[tactic(auto, unfolding(crate::specs::String::plain, ground::specs::Part::part))]
 fn read_plain(lines: &[f32], s: String, delay: f32, guess: usize) -> Heard
     requires { Good (s, lines.now) }
     ensures { (result, lines.now) ≡ plain s delay lines.now }
 {
-    let place = s.string;
     Heard {
-        s: utils::delay_line::read_hermite_near(&lines[0..1024], place, delay, guess),
+        s: utils::delay_line::read_hermite_near(&lines[0..1024], s.string, delay, guess),
         stretch: s.stretch,
     }
 }
 
 // The string line read in a straight line, and passed through the stretch line.
+#[tactic(auto, unfolding(crate::specs::String::allpassed, ground::specs::Part::part, ground::specs::Part::put))]
 fn read_allpass(lines: &mut [f32], s: String, main: f32, ap: f32, gain: f32) -> Heard
     requires { Good (s, lines.old) }
     ensures { (result, lines.new) ≡ allpassed s main ap gain lines.old }
 {
-    let place = s.string;
-    let x = utils::delay_line::read_with_delay_frac(&lines[0..1024], place, main);
+    let x = utils::delay_line::read_with_delay_frac(&lines[0..1024], s.string, main);
     let delay = ground::floats::whole_part(ap);
-    let stretch = s.stretch;
-    let o = utils::delay_line::allpass(&mut lines[1024..1280], stretch, x, delay, gain);
+    let o = utils::delay_line::allpass(&mut lines[1024..1280], s.stretch, x, delay, gain);
     Heard {
         s: o.out,
         stretch: o.write_ptr,
     }
 }
 
-// The delay of the string line beside an all-pass delay.
-fn main_delay(p: Params, delay: f32) -> f32
-    ensures { result ≡ main_of p delay }
-{
-    delay - delay * p.stretch_point * (0.408 - p.stretch_point * 0.308) * p.stretch_correction
-}
-
-// Whether the all-pass is used: by the dispersion, if both delays are at least 4.
-fn stretches(shape: StringNonLinearity, p: Params, delay: f32) -> bool
-    ensures { result ≡ stretched shape p delay }
-{
-    match shape {
-        StringNonLinearity::CurvedBridge(_) => false,
-        StringNonLinearity::Dispersion(_) => {
-            (delay * p.stretch_point >= 4.0) & (main_delay(p, delay) >= 4.0)
-        }
-    }
-}
-
-// What is read off the lines at a delay.
-fn hear(
-    lines: &mut [f32],
-    shape: StringNonLinearity,
-    p: Params,
-    s: String,
-    delay: f32,
-    guess: usize,
-) -> Heard
-    requires { Good (s, lines.old) }
-    ensures { (result, lines.new) ≡ heard shape p s delay lines.old }
-{
-    if stretches(shape, p, delay) {
-        return read_allpass(
-            lines,
-            s,
-            main_delay(p, delay),
-            delay * p.stretch_point,
-            p.ap_gain,
-        );
-    }
-    read_plain(lines, s, delay, guess)
-}
-
-// The bridge's curve after a sample.
-fn curve(shape: StringNonLinearity, s: f32, bridge: f32) -> f32
-    ensures { result ≡ bridged shape s bridge }
-{
-    match shape {
-        StringNonLinearity::CurvedBridge(_) => {
-            let value = ground::floats::abs(s) - 0.025;
-            let curved = ground::floats::abs(value) + value;
-            if s > 0.0 {
-                return curved * 1.0;
-            }
-            curved * -1.5
-        }
-        StringNonLinearity::Dispersion(_) => bridge,
-    }
-}
-
-fn step(
-    lines: &mut [f32],
-    v: Underway,
-    shape: StringNonLinearity,
-    p: Params,
-    in_sample: f32,
-) -> Underway
-    requires { Good (v.string, lines.old) × Ahead p v × (v.drawn < 2 ^ 63) }
-    ensures { (run (step_of shape p in_sample (v.string, lines.old)) v.word ≡ record { value = (result.string, lines.new); word = result.word })
-        × Ahead p result × (result.drawn ≡ v.drawn + words_of shape) × (result.guess ≡ guess_after shape p v) }
-{
-    let t = v.string;
-    let delay = t.delay + p.increment;
-    let b = bend(
-        shape,
-        p,
-        delay,
-        t.dispersion_noise,
-        v.next_noise,
-        t.curved_bridge,
-        v.word,
-    );
-    let h = hear(lines, shape, p, t, b.delay, v.guess);
-    let blocker = t.dc_blocker;
-    let filter = t.iir_damping_filter;
-    let dc_blocker = blocker.process_sample(h.s + ground::floats::clamp(in_sample, -20.0, 20.0));
-    let o = filter.process(dc_blocker.y);
-    let place = t.string;
-    let next = utils::delay_line::write(&mut lines[0..1024], place, o.out);
-    let iir_damping_filter = o.svf;
-    let string = String {
-        string: next,
-        stretch: h.stretch,
-        iir_damping_filter,
-        dc_blocker,
-        delay,
-        dispersion_noise: b.dispersion_noise,
-        curved_bridge: curve(shape, h.s, t.curved_bridge),
-        src_phase: t.src_phase,
-        out_sample_0: o.out,
-        out_sample_1: t.out_sample_0,
-        sample_rate_hz: t.sample_rate_hz,
-    };
-    let drawn = v.drawn + words_of(shape);
-    Underway {
-        string,
-        word: b.word,
-        next_noise: b.next_noise,
-        guess: b.guess,
-        drawn,
-    }
-}
-
-pub fn advance(
-    lines: &mut [f32],
-    v: Underway,
-    shape: StringNonLinearity,
-    p: Params,
-    in_sample: f32,
-) -> Underway
-    requires { Good (v.string, lines.old) × Ahead p v × (v.drawn < 2 ^ 63) }
-    ensures { (run (moved shape p in_sample (v.string, lines.old)) v.word ≡ record { value = (result.string, lines.new); word = result.word })
-        × Ahead p result × (result.drawn ≡ v.drawn + words_at shape p.src_ratio v.string.src_phase) × (result.guess ≡ guess_at shape p v) }
-{
-    let s = v.string;
-    let phase = s.src_phase + p.src_ratio;
-    if phase > 1.0 {
-        step(
-            lines,
-            Underway {
-                string: s.at_phase(phase - 1.0),
-                word: v.word,
-                next_noise: v.next_noise,
-                guess: v.guess,
-                drawn: v.drawn,
-            },
-            shape,
-            p,
-            in_sample,
-        )
-    } else {
-        Underway {
-            string: s.at_phase(phase),
-            word: v.word,
-            next_noise: v.next_noise,
-            guess: v.guess,
-            drawn: v.drawn,
-        }
-    }
-}
-
 // A frame's output.
+#[tactic(auto, unfolding(crate::specs::String::mixed))]
 pub fn mix(y: f32, s: String) -> f32
     ensures { result ≡ mixed y s }
 {
@@ -441,16 +274,15 @@ pub fn mix(y: f32, s: String) -> f32
 }
 
 impl String {
+    #[tactic(auto, unfolding(crate::specs::String::string_new))]
     pub fn new() -> String
         ensures { result ≡ string_new }
     {
-        let iir_damping_filter = Svf::new();
-        let dc_blocker = DcBlocker::init(0.0);
         String {
             string: 0,
             stretch: 0,
-            iir_damping_filter,
-            dc_blocker,
+            iir_damping_filter: Svf::new(),
+            dc_blocker: DcBlocker::init(0.0),
             delay: 0.0,
             dispersion_noise: 0.0,
             curved_bridge: 0.0,
@@ -461,46 +293,33 @@ impl String {
         }
     }
 
+    #[tactic(auto, unfolding(crate::specs::String::string_init, crate::specs::String::string_reset))]
     pub fn init(self, sample_rate_hz: f32, lines: &mut [f32]) -> String
         ensures { (result, lines.new) ≡ init_of self sample_rate_hz lines.old }
     {
-        utils::delay_line::reset(lines);
-        let filter = self.iir_damping_filter;
-        let iir_damping_filter = filter.init();
-        let dc_blocker = DcBlocker::init(1.0 - 20.0 / sample_rate_hz);
         String {
-            string: 0,
-            stretch: 0,
-            iir_damping_filter,
-            dc_blocker,
+            iir_damping_filter: self.iir_damping_filter.init(),
+            dc_blocker: DcBlocker::init(1.0 - 20.0 / sample_rate_hz),
             delay: 100.0,
-            dispersion_noise: 0.0,
-            curved_bridge: 0.0,
-            src_phase: 0.0,
-            out_sample_0: 0.0,
-            out_sample_1: 0.0,
             sample_rate_hz,
+            ..self.reset(lines)
         }
     }
 
+    #[tactic(auto, unfolding(crate::specs::String::string_reset))]
     pub fn reset(self, lines: &mut [f32]) -> String
         ensures { (result, lines.new) ≡ reset_of self lines.old }
     {
         utils::delay_line::reset(lines);
-        let iir_damping_filter = self.iir_damping_filter;
-        let dc_blocker = self.dc_blocker;
         String {
             string: 0,
             stretch: 0,
-            iir_damping_filter,
-            dc_blocker,
-            delay: self.delay,
             dispersion_noise: 0.0,
             curved_bridge: 0.0,
             src_phase: 0.0,
             out_sample_0: 0.0,
             out_sample_1: 0.0,
-            sample_rate_hz: self.sample_rate_hz,
+            ..self
         }
     }
 
@@ -508,90 +327,186 @@ impl String {
     fn at_phase(self, src_phase: f32) -> String
         ensures { result ≡ at_phase self src_phase }
     {
-        let iir_damping_filter = self.iir_damping_filter;
-        let dc_blocker = self.dc_blocker;
-        String {
-            string: self.string,
-            stretch: self.stretch,
-            iir_damping_filter,
-            dc_blocker,
-            delay: self.delay,
-            dispersion_noise: self.dispersion_noise,
-            curved_bridge: self.curved_bridge,
-            src_phase,
-            out_sample_0: self.out_sample_0,
-            out_sample_1: self.out_sample_1,
-            sample_rate_hz: self.sample_rate_hz,
-        }
+        String { src_phase, ..self }
     }
 
     // The state with the phase snapped and the damping filter set.
+    #[tactic(auto, unfolding(crate::specs::String::tuned, crate::specs::String::ratio_of))]
     fn tune(self, f0: f32, d: Damping) -> String
         ensures { result ≡ tuned self f0 d }
     {
         let filter = self.iir_damping_filter;
-        let iir_damping_filter = filter.set_f_q(d.f, 0.5, FrequencyApproximation::Fast);
-        let dc_blocker = self.dc_blocker;
         String {
-            string: self.string,
-            stretch: self.stretch,
-            iir_damping_filter,
-            dc_blocker,
-            delay: self.delay,
-            dispersion_noise: self.dispersion_noise,
-            curved_bridge: self.curved_bridge,
+            iir_damping_filter: filter.set_f_q(d.f, 0.5, FrequencyApproximation::Fast),
             src_phase: snapped(delay_of(f0) * f0, self.src_phase),
-            out_sample_0: self.out_sample_0,
-            out_sample_1: self.out_sample_1,
-            sample_rate_hz: self.sample_rate_hz,
+            ..self
         }
     }
 }
 
-// A string as its loop begins.
-pub fn begin(v: Live, p: Params) -> Underway
-    ensures { result ≡ begun p v }
-{
-    let string = v.string;
-    Underway {
-        string,
-        word: v.word,
-        next_noise: noise_after(p, string.dispersion_noise, v.word),
-        guess: ground::floats::whole_part(string.delay),
-        drawn: 0,
+impl Block {
+    // The dispersion noise after the word that is drawn next.
+    #[tactic(auto, unfolding(crate::specs::String::noise_after))]
+    fn noise_after(self, noise: f32, word: u32) -> f32
+        ensures { result ≡ noise_after self.params noise word }
+    {
+        let u = ground::random::get_float(ground::random::get_word(word)) - 0.5;
+        utils::one_pole(noise, u, self.params.noise_filter)
     }
-}
 
-// The loop of `process`.
-fn run_frames(
-    lines: &mut [f32],
-    v: Live,
-    shape: StringNonLinearity,
-    p: Params,
-    in_: &[f32],
-    out: &mut [f32],
-) -> Played
-    requires { Good (v.string, lines.old) × (length out.old ≤ 2 ^ 24) }
-    ensures { run (counted (frames (frame_of shape p) (v.string, lines.old) in_.now out.old)) v.word
-        ≡ record { value = (((result.string, lines.new), out.new), result.drawn); word = result.word } }
-{
-    let n = utils::min_usize(in_.len(), out.len());
-    let mut u = begin(v, p);
-    let mut i = 0;
-    while i < n {
-        u = advance(lines, u, shape, p, in_[i]);
-        out[i] = mix(out[i], u.string);
-        i += 1;
+    // The delay and the dispersion noise of a step. That noise was worked out a step ago, so that the line's reading need not wait for it.
+    #[tactic(auto, unfolding(crate::specs::String::bent, crate::specs::String::guess_of, crate::specs::String::noise_after))]
+    fn bend(self, delay: f32, noise: f32, next_noise: f32, bridge: f32, word: u32) -> Bent
+        requires { next_noise ≡ noise_after self.params noise word }
+        ensures { (run (bent self.shape self.params delay noise bridge) word ≡ record { value = (result.delay, result.dispersion_noise); word = result.word })
+            × (result.next_noise ≡ noise_after self.params result.dispersion_noise result.word) × (result.guess ≡ guess_of self.shape result.delay) }
+    {
+        match self.shape {
+            StringNonLinearity::CurvedBridge(_) => {
+                let curved = delay * (1.0 - bridge * self.params.bridge_curving);
+                Bent {
+                    delay: curved,
+                    dispersion_noise: noise,
+                    word,
+                    next_noise,
+                    guess: ground::floats::whole_part(curved),
+                }
+            }
+            StringNonLinearity::Dispersion(_) => {
+                let drawn = ground::random::get_word(word);
+                Bent {
+                    delay: delay * (1.0 + next_noise * self.params.noise_amount),
+                    dispersion_noise: next_noise,
+                    word: drawn,
+                    next_noise: self.noise_after(next_noise, drawn),
+                    guess: 0,
+                }
+            }
+        }
     }
-    let string = u.string;
-    Played {
-        string,
-        word: u.word,
-        drawn: u.drawn,
+
+    // The delay of the string line beside an all-pass delay.
+    #[tactic(auto, unfolding(crate::specs::String::main_of))]
+    fn main_delay(self, delay: f32) -> f32
+        ensures { result ≡ main_of self.params delay }
+    {
+        let p = self.params;
+        delay - delay * p.stretch_point * (0.408 - p.stretch_point * 0.308) * p.stretch_correction
+    }
+
+    // Whether the all-pass is used: by the dispersion, if both delays are at least 4.
+    #[tactic(auto, unfolding(crate::specs::String::stretched))]
+    fn stretches(self, delay: f32) -> bool
+        ensures { result ≡ stretched self.shape self.params delay }
+    {
+        match self.shape {
+            StringNonLinearity::CurvedBridge(_) => false,
+            StringNonLinearity::Dispersion(_) => {
+                (delay * self.params.stretch_point >= 4.0) & (self.main_delay(delay) >= 4.0)
+            }
+        }
+    }
+
+    // What is read off the lines at a delay.
+    #[tactic(auto, unfolding(crate::specs::String::heard))]
+    fn hear(self, lines: &mut [f32], s: String, delay: f32, guess: usize) -> Heard
+        requires { Good (s, lines.old) }
+        ensures { (result, lines.new) ≡ heard self.shape self.params s delay lines.old }
+    {
+        if self.stretches(delay) {
+            let p = self.params;
+            read_allpass(lines, s, self.main_delay(delay), delay * p.stretch_point, p.ap_gain)
+        } else {
+            read_plain(lines, s, delay, guess)
+        }
+    }
+
+    fn step(self, lines: &mut [f32], v: Underway, in_sample: f32) -> Underway
+        requires { Good (v.string, lines.old) × Ahead self.params v × (v.drawn < 2 ^ 63) }
+        ensures { (run (step_of self.shape self.params in_sample (v.string, lines.old)) v.word ≡ record { value = (result.string, lines.new); word = result.word })
+            × Ahead self.params result × (result.drawn ≡ v.drawn + words_of self.shape) × (result.guess ≡ guess_after self.shape self.params v) }
+    {
+        let t = v.string;
+        let delay = t.delay + self.params.increment;
+        let b = self.bend(delay, t.dispersion_noise, v.next_noise, t.curved_bridge, v.word);
+        let h = self.hear(lines, t, b.delay, v.guess);
+        let driven = h.s + ground::floats::clamp(in_sample, -20.0, 20.0);
+        let dc_blocker = t.dc_blocker.process_sample(driven);
+        let o = t.iir_damping_filter.process(dc_blocker.y);
+        let next = utils::delay_line::write(&mut lines[0..1024], t.string, o.out);
+        let string = String {
+            string: next,
+            stretch: h.stretch,
+            iir_damping_filter: o.svf,
+            dc_blocker,
+            delay,
+            dispersion_noise: b.dispersion_noise,
+            curved_bridge: self.shape.curve(h.s, t.curved_bridge),
+            out_sample_0: o.out,
+            out_sample_1: t.out_sample_0,
+            ..t
+        };
+        Underway {
+            string,
+            word: b.word,
+            next_noise: b.next_noise,
+            guess: b.guess,
+            drawn: v.drawn + self.shape.words(),
+        }
+    }
+
+    #[tactic(auto, unfolding(crate::specs::String::moved))]
+    pub fn advance(self, lines: &mut [f32], v: Underway, in_sample: f32) -> Underway
+        requires { Good (v.string, lines.old) × Ahead self.params v × (v.drawn < 2 ^ 63) }
+        ensures { (run (moved self.shape self.params in_sample (v.string, lines.old)) v.word ≡ record { value = (result.string, lines.new); word = result.word })
+            × Ahead self.params result × (result.drawn ≡ v.drawn + words_at self.shape self.params.src_ratio v.string.src_phase) × (result.guess ≡ guess_at self.shape self.params v) }
+    {
+        let phase = v.string.src_phase + self.params.src_ratio;
+        if phase > 1.0 {
+            let string = v.string.at_phase(phase - 1.0);
+            self.step(lines, Underway { string, ..v }, in_sample)
+        } else {
+            let string = v.string.at_phase(phase);
+            Underway { string, ..v }
+        }
+    }
+
+    // A string as its loop begins.
+    #[tactic(auto, unfolding(crate::specs::String::begun))]
+    pub fn begin(self, v: Live) -> Underway
+        ensures { result ≡ begun self.params v }
+    {
+        let string = v.string;
+        Underway {
+            string,
+            word: v.word,
+            next_noise: self.noise_after(string.dispersion_noise, v.word),
+            guess: ground::floats::whole_part(string.delay),
+            drawn: 0,
+        }
+    }
+
+    // The loop of `process`. The string is one state over all frames, so the frames are counted.
+    fn run_frames(self, lines: &mut [f32], v: Live, in_: &[f32], out: &mut [f32]) -> Played
+        requires { Good (v.string, lines.old) × (length out.old ≤ 2 ^ 24) }
+        ensures { run (counted (frames (frame_of self.shape self.params) (v.string, lines.old) in_.now out.old)) v.word
+            ≡ record { value = (((result.string, lines.new), out.new), result.drawn); word = result.word } }
+    {
+        let mut u = self.begin(v);
+        for i in 0..in_.len().min(out.len()) {
+            u = self.advance(lines, u, in_[i]);
+            out[i] = mix(out[i], u.string);
+        }
+        Played {
+            string: u.string,
+            word: u.word,
+            drawn: u.drawn,
+        }
     }
 }
 
 // A string tuned for a block of n frames, and what the block's knobs come to.
+#[tactic(auto, unfolding(crate::specs::String::prepared_of))]
 pub fn prepare(
     s: String,
     shape: StringNonLinearity,
@@ -604,9 +519,10 @@ pub fn prepare(
     ensures { result ≡ prepared_of s shape f0 brightness damping n }
 {
     let d = damping_of(f0, brightness, damping);
-    let params = params_of(s, f0, amount_of(shape), d, n);
+    let params = params_of(s, f0, shape.amount(), d, n);
     let string = s.tune(f0, d);
-    Prepared { string, params }
+    let block = Block { shape, params };
+    Prepared { string, block }
 }
 
 pub fn process(
@@ -624,10 +540,9 @@ pub fn process(
         ≡ record { value = (((result.string, lines.new), out.new), result.drawn); word = result.word } }
 {
     let b = prepare(v.string, shape, f0, brightness, damping, out.len());
-    let string = b.string;
     let live = Live {
-        string,
+        string: b.string,
         word: v.word,
     };
-    run_frames(lines, live, shape, b.params, in_, out)
+    b.block.run_frames(lines, live, in_, out)
 }

@@ -1,5 +1,4 @@
 -- `string_voice::fill_noise` meets its contract, by the law of loops over frames: a word a frame, as far as the noise goes.
-use Prim.Native.Nat.{◌-◌}
 use lib.ListN.{take}
 use Rattle.ground.proofs.Frames.{Frames}
 use Rattle.string_voice.specs.StringVoice.{noise_step}
@@ -7,6 +6,3 @@ use Rattle.string_voice.proofs.string_voice.fill_noise.Given as goal
 
 abbrev pub invariant-loop-i : goal.invariant-loop-i
 invariant-loop-i l = Frames noise_step tt (take l.m l.initial.temp) l.initial.temp l.word l.i tt l.temp l.w
-
-abbrev pub decreases-loop-i : goal.decreases-loop-i
-decreases-loop-i l = l.m - l.i

@@ -28,8 +28,8 @@ loop-i-init c =
       lead_begin (ahead_step a.f a.temp.now 0 h.0) (ahead_end a.f a.temp.now 0 h.0),
       frames_begin,
       frames_begin,
-      begun_ahead a.p a.v _ e,
-      begun_drawn a.p a.v _ e,
+      begun_ahead a.block.params a.v _ e,
+      begun_drawn a.block.params a.v _ e,
       h.1,
       λ k. sym (ahead_end a.f a.temp.now 0 h.0 k),
       record {
@@ -62,9 +62,9 @@ advance-u-requires c =
     let a = c.args in
     let b = c.begin-u in
     let l = c.loop-i in (
-      frames_good Good (frame_good a.shape a.p) (begun_good a.p a.v _ b.ensures a.lines.now c.requires.0) l.invariant.2,
+      frames_good Good (frame_good a.block.shape a.block.params) (begun_good a.block.params a.v _ b.ensures a.lines.now c.requires.0) l.invariant.2,
       l.invariant.3,
-      omega (arith, l.invariant.4, words_to_few a.shape a.p b.result.string.src_phase l.i, l.invariant.2.within, l.invariant.7.few, l.invariant.7.out_size),
+      omega (arith, l.invariant.4, words_to_few a.block.shape a.block.params b.result.string.src_phase l.i, l.invariant.2.within, l.invariant.7.few, l.invariant.7.out_size),
     )
 
 pub filter_on-ahead-requires : goal.filter_on-ahead-requires
@@ -82,12 +82,6 @@ offset_bounds-out-i-in-loop-i c = omega (arith, c.loop-i.invariant.7, c.loop-i-t
 pub bounds-out-i-in-loop-i : goal.bounds-out-i-in-loop-i
 bounds-out-i-in-loop-i c = omega (arith, c.loop-i.invariant.7, c.loop-i-test, c.loop-i.invariant.2.size)
 
-pub overflow_add-i : goal.overflow_add-i
-overflow_add-i c = omega (arith, c.loop-i.invariant.7, c.loop-i-test)
-
-pub loop-i-smaller : goal.loop-i-smaller
-loop-i-smaller c = omega (arith, c.loop-i.invariant.7, c.loop-i-test)
-
 pub loop-i-preserved : goal.loop-i-preserved
 loop-i-preserved c =
     let a = c.args in
@@ -101,12 +95,12 @@ loop-i-preserved c =
     let x = lead_puts nan v.0 within in
     let q = c.filter_on-ahead.ensures in
     let m = c.advance-u.ensures in
-    let good = begun_good a.p a.v _ b.ensures a.lines.now c.requires.0 in (
+    let good = begun_good a.block.params a.v _ b.ensures a.lines.now c.requires.0 in (
       lead_turn nan v.0 within (ahead_step l.ahead.svf a.temp.now (l.i + 1) q.0) (ahead_end l.ahead.svf a.temp.now (l.i + 1) q.0),
       scan_turn nan nan v.1 (omega (arith, z, lt)) (ap (λ (x : Float). (tt, get_or l.aux l.i nan ⊕ x)) x),
-      frames_turn nan nan v.2 (omega (arith, z, lt)) (rw (← x, c.mix.ensures) (run_then (moved a.shape a.p _ (l.u.string, l.lines)) _ l.u.word m.0)),
+      frames_turn nan nan v.2 (omega (arith, z, lt)) (rw (← x, c.mix.ensures) (run_then (moved a.block.shape a.block.params _ (l.u.string, l.lines)) _ l.u.word m.0)),
       m.1,
-      words_turn a.shape a.p (b.result.string, a.lines.now) xs a.out.now b.result.word good l.i l.u.drawn _ v.2 (omega (arith, z, lt)) v.4 m.2,
+      words_turn a.block.shape a.block.params (b.result.string, a.lines.now) xs a.out.now b.result.word good l.i l.u.drawn _ v.2 (omega (arith, z, lt)) v.4 m.2,
       q.1,
       λ k. refl,
       z,
@@ -116,7 +110,7 @@ pub shape_of-lines : goal.shape_of-lines
 shape_of-lines c =
     let a = c.args in
     let b = c.begin-u in
-    let g = frames_good Good (frame_good a.shape a.p) (begun_good a.p a.v _ b.ensures a.lines.now c.requires.0) c.loop-i.invariant.2 in
+    let g = frames_good Good (frame_good a.block.shape a.block.params) (begun_good a.block.params a.v _ b.ensures a.lines.now c.requires.0) c.loop-i.invariant.2 in
     omega (arith, c.requires.0.size, g.size)
 
 pub shape_of-temp_2 : goal.shape_of-temp_2
@@ -136,10 +130,10 @@ returns c =
     let v = l.invariant in
     let z = v.7 in
     let xs = (svf_buffer a.f a.temp.now a.temp_2.now).1 in
-    let good = begun_good a.p a.v _ b.ensures a.lines.now c.requires.0 in
+    let good = begun_good a.block.params a.v _ b.ensures a.lines.now c.requires.0 in
     let past : length a.temp.now ≤ l.i = omega (arith, z.all, c.loop-i-test) in
-    all_frames a.shape a.p a.f (a.v.string, a.lines.now) a.temp.now a.temp_2.now a.out.now a.aux.now a.v.word
+    all_frames a.block.shape a.block.params a.f (a.v.string, a.lines.now) a.temp.now a.temp_2.now a.out.now a.aux.now a.v.word
     (ap (λ (f : Svf). (f, l.temp_2)) (v.6 past) ∙ lead_end v.0 past)
     (ap (λ (q : Unit {0} × List Float). q.1) (scan_end v.1 (omega (arith, z, c.loop-i-test))))
-    (begun_run a.p a.v b.result b.ensures (λ (t : String). counted (frames (frame_of a.shape a.p) (t, a.lines.now) xs a.out.now))
-    (words_end a.shape a.p (b.result.string, a.lines.now) xs a.out.now b.result.word good l.i l.u.drawn v.2 (omega (arith, z, c.loop-i-test)) v.4))
+    (begun_run a.block.params a.v b.result b.ensures (λ (t : String). counted (frames (frame_of a.block.shape a.block.params) (t, a.lines.now) xs a.out.now))
+    (words_end a.block.shape a.block.params (b.result.string, a.lines.now) xs a.out.now b.result.word good l.i l.u.drawn v.2 (omega (arith, z, c.loop-i-test)) v.4))

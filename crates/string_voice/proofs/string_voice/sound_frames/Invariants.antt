@@ -1,6 +1,6 @@
 -- `string_voice::sound_frames` meets its contract: the loops that it joins, each by the law of loops over frames.
 use mathlib.Core.Path.{◌≡◌}
-use Prim.Native.Nat.{◌-◌, ◌≤◌}
+use Prim.Native.Nat.{◌≤◌}
 use lib.ListN.{length, get_or}
 use lib.Ieee.{nan}
 use Rattle.ground.proofs.Frames.{Scan, Frames}
@@ -14,15 +14,13 @@ use Rattle.string_voice.proofs.string_voice.sound_frames.Given as goal
 
 abbrev pub invariant-loop-i : goal.invariant-loop-i
 invariant-loop-i l =
+    let b = l.block in
     let xs = (svf_buffer l.initial.filter l.temp l.initial.temp_2).1 in
     Lead filter_of nan l.initial.filter l.temp l.initial.temp_2 l.i l.temp_2 (l.ahead.svf, l.ahead.out)
     × Scan add_step tt xs l.initial.aux l.i tt l.aux
-    × Frames (frame_of l.shape l.p) (l.initial.u.string, l.initial.lines) xs l.initial.out l.initial.u.word l.i (l.u.string, l.lines) l.out l.u.word
-    × Ahead l.p l.u
-    × (l.u.drawn ≡ words_to l.shape l.p l.initial.u.string.src_phase l.i)
+    × Frames (frame_of b.shape b.params) (l.initial.u.string, l.initial.lines) xs l.initial.out l.initial.u.word l.i (l.u.string, l.lines) l.out l.u.word
+    × Ahead b.params l.u
+    × (l.u.drawn ≡ words_to b.shape b.params l.initial.u.string.src_phase l.i)
     × Stays l.ahead (get_or l.temp l.i nan)
     × (length l.temp ≤ l.i → l.filter ≡ l.ahead.svf)
-    × Block l.temp l.initial.temp_2 l.initial.out l.initial.aux xs l.n
-
-abbrev pub decreases-loop-i : goal.decreases-loop-i
-decreases-loop-i l = l.n - l.i
+    × Block l.temp l.initial.temp_2 l.initial.out l.initial.aux xs (length l.temp)
