@@ -5,13 +5,9 @@ use mathlib.Core.List.{List}
 use Prim.Native.Nat.{ℕ, ◌-◌, min}
 use lib.ListN.{length}
 use lib.Ieee.{Float}
-use Rattle.ground.specs.F32.{◌⊗◌, ◌⊖◌, ◌⊘◌, c0·499, c0·5, c1, c2, c4, c72}
 use Rattle.ground.specs.Draw.{run, counted}
-use Rattle.ground.specs.Floats.{whole_part, min_f}
-use Rattle.utils.specs.Units.{semitones_to_ratio}
-use Rattle.utils.specs.Filter.{svf_buffer, svf_setFQ}
+use Rattle.utils.specs.Filter.{svf_buffer}
 use Rattle.utils.specs.declared.filter.Svf.{Svf}
-use Rattle.utils.specs.declared.filter.FrequencyApproximation.TheVariants.{Dirty}
 use Rattle.ground.proofs.Draw.{run_then, counted_then}
 use Rattle.waveguide.specs.declared.string.StringNonLinearity.{StringNonLinearity}
 use Rattle.waveguide.specs.declared.string.String.{String}
@@ -20,24 +16,8 @@ use Rattle.noise.specs.declared.excitation.Counts.{Counts}
 use Rattle.noise.specs.Excitation.{raised, added}
 use Rattle.string_voice.specs.declared.string_voice.StringVoice.{StringVoice}
 use Rattle.waveguide.specs.String.{non_linearity, strung, Good}
-use Rattle.string_voice.specs.StringVoice.{exciter_semitones, cutoff_for, struck, excitation, excitation_words, excitation_counts, excite_of, both_counts, amount, sound_of, render_of}
+use Rattle.string_voice.specs.StringVoice.{struck, excitation, excitation_words, excitation_counts, excite_of, both_counts, amount, sound_of, render_of}
 use Rattle.string_voice.proofs.Excitations.{excitation_draws}
-
-pub cut_off : (k : Knobs) (b ratio r : Float) → b ≡ raised k.accent k.brightness → ratio ≡ semitones_to_ratio ((b ⊗ (c2 ⊖ b) ⊖ c0·5) ⊗ c72)
-    → r ≡ min_f (c4 ⊗ k.f0 ⊗ ratio) c0·499 → r ≡ cutoff_for k
-unfolding cutoff_for exciter_semitones
-cut_off k b ratio r e f g = rw (← e, ← f) g
-
-module _ (k : Knobs) (v : StringVoice) where
-  pub not_struck : (k.trigger || k.sustain) ≡ false → v ≡ struck k v
-  unfolding struck
-  not_struck h = rw h
-
-  pub newly_struck : {filter : Svf} {cutoff q : Float} {left : ℕ} → (k.trigger || k.sustain) ≡ true → q ≡ cond k.sustain c1 c0·5 → cutoff ≡ cutoff_for k
-      → filter ≡ svf_setFQ v.excitation_filter cutoff q Dirty → left ≡ whole_part (c1 ⊘ k.f0)
-      → ◌≡◌ {A = StringVoice} (record { excitation_filter = filter; string = v.string; remaining_noise_samples = left }) (struck k v)
-  unfolding struck
-  newly_struck h eq ec ef el = rw (h, ef, ec, eq, el)
 
 module _ (k : Knobs) (v s : StringVoice) (temp temp2 aux : List Float) (word : ℕ) where
   pub excited : {left w : ℕ} {filter : Svf} {temp' temp2' aux' : List Float} {counts : Counts}

@@ -37,10 +37,6 @@ pub record Block (temp temp2 out aux filtered : List Float) (n : ℕ) : Type 0 w
   pub few : n ≤ 2 ^ 24
 
 -- the filter ahead, within the block and past its end
-pub ahead_within : {o : Passed} (s : Svf) (xs : List Float) (i : ℕ) → i < length xs → o ≡ pass_of s (get_or xs i nan) → o ≡ ahead_of s xs i
-unfolding ahead_of
-ahead_within s xs i l e = rw (lt-ltb i (length xs) l) e
-
 pub ahead_past : (s : Svf) (xs : List Float) (i : ℕ) → length xs ≤ i → ◌≡◌ {A = Passed} (record { svf = s; out = c0; stands = false }) (ahead_of s xs i)
 unfolding ahead_of
 ahead_past s xs i l = rw (le-ltb i (length xs) l)

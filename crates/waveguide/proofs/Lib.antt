@@ -1,5 +1,4 @@
 -- Laws that the proofs of this crate and of others cite. Assumes nothing.
-pub mod Knobs
 pub mod Steps
 pub mod Blocks
 pub mod Ranges

@@ -194,7 +194,7 @@ fn damping_of(f0: f32, brightness: f32, damping: f32) -> Damping
 }
 
 // The shift table read at a cutoff.
-#[tactic(auto, unfolding(crate::specs::String::compensation_of))]
+#[tactic(auto, using(crate::proofs::Ranges::shift_in), unfolding(crate::specs::String::compensation_of))]
 fn compensation_of(cutoff: f32) -> f32
     ensures { result ≡ compensation_of cutoff }
 {
@@ -415,7 +415,13 @@ impl Block {
     {
         if self.stretches(delay) {
             let p = self.params;
-            read_allpass(lines, s, self.main_delay(delay), delay * p.stretch_point, p.ap_gain)
+            read_allpass(
+                lines,
+                s,
+                self.main_delay(delay),
+                delay * p.stretch_point,
+                p.ap_gain,
+            )
         } else {
             read_plain(lines, s, delay, guess)
         }
@@ -428,7 +434,13 @@ impl Block {
     {
         let t = v.string;
         let delay = t.delay + self.params.increment;
-        let b = self.bend(delay, t.dispersion_noise, v.next_noise, t.curved_bridge, v.word);
+        let b = self.bend(
+            delay,
+            t.dispersion_noise,
+            v.next_noise,
+            t.curved_bridge,
+            v.word,
+        );
         let h = self.hear(lines, t, b.delay, v.guess);
         let driven = h.s + ground::floats::clamp(in_sample, -20.0, 20.0);
         let dc_blocker = t.dc_blocker.process_sample(driven);
@@ -525,6 +537,7 @@ pub fn prepare(
     Prepared { string, block }
 }
 
+#[tactic(auto, using(crate::proofs::Blocks::prepared_good), unfolding(crate::specs::String::strung, crate::specs::String::prepared_of))]
 pub fn process(
     lines: &mut [f32],
     v: Live,

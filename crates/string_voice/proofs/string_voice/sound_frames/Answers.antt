@@ -42,21 +42,6 @@ loop-i-init c =
       },
     )
 
-pub offset_bounds-temp_2-i : goal.offset_bounds-temp_2-i
-offset_bounds-temp_2-i c = omega (arith, c.loop-i.invariant.7, c.loop-i-test)
-
-pub bounds-temp_2-i : goal.bounds-temp_2-i
-bounds-temp_2-i c = omega (arith, c.loop-i.invariant.7, c.loop-i-test)
-
-pub offset_bounds-aux-i : goal.offset_bounds-aux-i
-offset_bounds-aux-i c = omega (arith, c.loop-i.invariant.7, c.loop-i-test)
-
-pub bounds-aux-i : goal.bounds-aux-i
-bounds-aux-i c = omega (arith, c.loop-i.invariant.7, c.loop-i-test)
-
-pub bounds-aux-i-in-loop-i : goal.bounds-aux-i-in-loop-i
-bounds-aux-i-in-loop-i c = omega (arith, c.loop-i.invariant.7, c.loop-i-test)
-
 pub advance-u-requires : goal.advance-u-requires
 advance-u-requires c =
     let a = c.args in
@@ -66,21 +51,6 @@ advance-u-requires c =
       l.invariant.3,
       omega (arith, l.invariant.4, words_to_few a.block.shape a.block.params b.result.string.src_phase l.i, l.invariant.2.within, l.invariant.7.few, l.invariant.7.out_size),
     )
-
-pub filter_on-ahead-requires : goal.filter_on-ahead-requires
-filter_on-ahead-requires c = let v = c.loop-i.invariant in (v.5, omega (arith, v.7.all, c.loop-i-test))
-
-pub offset_bounds-out-i : goal.offset_bounds-out-i
-offset_bounds-out-i c = omega (arith, c.loop-i.invariant.7, c.loop-i-test)
-
-pub bounds-out-i : goal.bounds-out-i
-bounds-out-i c = omega (arith, c.loop-i.invariant.7, c.loop-i-test, c.loop-i.invariant.2.size)
-
-pub offset_bounds-out-i-in-loop-i : goal.offset_bounds-out-i-in-loop-i
-offset_bounds-out-i-in-loop-i c = omega (arith, c.loop-i.invariant.7, c.loop-i-test)
-
-pub bounds-out-i-in-loop-i : goal.bounds-out-i-in-loop-i
-bounds-out-i-in-loop-i c = omega (arith, c.loop-i.invariant.7, c.loop-i-test, c.loop-i.invariant.2.size)
 
 pub loop-i-preserved : goal.loop-i-preserved
 loop-i-preserved c =
@@ -105,22 +75,6 @@ loop-i-preserved c =
       λ k. refl,
       z,
     )
-
-pub shape_of-lines : goal.shape_of-lines
-shape_of-lines c =
-    let a = c.args in
-    let b = c.begin-u in
-    let g = frames_good Good (frame_good a.block.shape a.block.params) (begun_good a.block.params a.v _ b.ensures a.lines.now c.requires.0) c.loop-i.invariant.2 in
-    omega (arith, c.requires.0.size, g.size)
-
-pub shape_of-temp_2 : goal.shape_of-temp_2
-shape_of-temp_2 c = c.loop-i.invariant.0.done.size
-
-pub shape_of-out : goal.shape_of-out
-shape_of-out c = c.loop-i.invariant.2.size
-
-pub shape_of-aux : goal.shape_of-aux
-shape_of-aux c = c.loop-i.invariant.1.size
 
 pub returns : goal.returns
 returns c =

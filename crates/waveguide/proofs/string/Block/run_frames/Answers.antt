@@ -40,13 +40,6 @@ loop-i-preserved c =
       words_turn a.self.shape p (b.result.string, a.lines.now) a.in_.now a.out.now b.result.word (begun_good p a.v _ b.ensures a.lines.now c.requires.0) l.i l.u.drawn _ l.invariant.0 (omega (arith, l.invariant.0.within)) l.invariant.2 m.2,
     )
 
-pub shape_of-lines : goal.shape_of-lines
-shape_of-lines c =
-    let a = c.args in
-    let b = c.begin-u in
-    let g = frames_good Good (frame_good a.self.shape a.self.params) (begun_good a.self.params a.v _ b.ensures a.lines.now c.requires.0) c.loop-i.invariant.0 in
-    omega (arith, c.requires.0.size, g.size)
-
 pub returns : goal.returns
 returns c =
     let a = c.args in
