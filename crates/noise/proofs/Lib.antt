@@ -1,3 +1,4 @@
 -- Laws that other crates cite.
+pub mod OneAhead
 pub mod Drawn
 pub mod Ranges

@@ -1,3 +1,5 @@
 -- What the functions of `noise` are proved equal to.
+pub mod Ahead
 pub mod Dust
 pub mod Excitation
+pub mod SvfAhead

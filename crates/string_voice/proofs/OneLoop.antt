@@ -11,8 +11,7 @@ use Rattle.ground.specs.Draw.{Draw, Ran, run, counted}
 use Rattle.ground.specs.Frames.{frames}
 use Rattle.ground.proofs.Draw.{run_bind, run_then}
 use Rattle.utils.specs.declared.filter.Svf.{Svf}
-use Rattle.utils.specs.declared.filter.Passed.{Passed}
-use Rattle.utils.specs.Filter.{svf_step, svf_buffer, pass_of}
+use Rattle.utils.specs.Filter.{svf_step, svf_buffer}
 use Rattle.noise.specs.declared.excitation.Knobs.{Knobs}
 use Rattle.noise.specs.declared.excitation.Counts.{Counts}
 use Rattle.noise.specs.Excitation.{raised, added}
@@ -24,7 +23,7 @@ use Rattle.waveguide.specs.String.{non_linearity, prepared_of, frame_of}
 use Rattle.waveguide.proofs.Blocks.{processed}
 use Rattle.string_voice.specs.declared.string_voice.StringVoice.{StringVoice}
 use Rattle.string_voice.specs.StringVoice.{struck, excitation, excitation_words, excitation_counts, amount, render_of}
-use Rattle.string_voice.specs.OneLoop.{Framed, frames_of, ahead_of}
+use Rattle.string_voice.specs.OneLoop.{Framed, frames_of}
 use Rattle.string_voice.proofs.Halves.{excited, sounded, rendered}
 
 -- a block of n frames, and what its filter leaves in temp_2
@@ -36,25 +35,9 @@ pub record Block (temp temp2 out aux filtered : List Float) (n : ℕ) : Type 0 w
   pub filtered_size : length filtered ≡ n
   pub few : n ≤ 2 ^ 24
 
--- the filter ahead, within the block and past its end
-pub ahead_past : (s : Svf) (xs : List Float) (i : ℕ) → length xs ≤ i → ◌≡◌ {A = Passed} (record { svf = s; out = c0; stands = false }) (ahead_of s xs i)
-unfolding ahead_of
-ahead_past s xs i l = rw (le-ltb i (length xs) l)
-
 -- a sample through the excitation filter
 abbrev pub filter_of : Svf → Float → Svf × Float
 filter_of s x = svf_step s x nan
-
-module _ {o : Passed} (s : Svf) (xs : List Float) (i : ℕ) (e : o ≡ ahead_of s xs i) where
-  pub ahead_step : i < length xs → ◌≡◌ {A = Svf × Float} (o.svf, o.out) (filter_of s (get_or xs i nan))
-  unfolding ahead_of pass_of
-  ahead_step l =
-      ap (λ (o : Passed). (o.svf, o.out)) e
-      ∙ ap (λ (b : Bool). let p = cond b (pass_of s (get_or xs i nan)) (record { svf = s; out = c0; stands = false }) in (p.svf, p.out))
-      (lt-ltb i (length xs) l)
-
-  pub ahead_end : length xs ≤ i → o.svf ≡ s
-  ahead_end l = ap (λ (p : Passed). p.svf) (e ∙ sym (ahead_past s xs i l))
 
 -- what stands at the loop's end
 pub all_frames : (shape : StringNonLinearity) (p : Params) (f : Svf) (s : String × List Float) (temp temp2 out aux : List Float) (word : ℕ)

@@ -1,12 +1,9 @@
 -- Both halves' loops of a render as one: the excitation filter a frame ahead of the string. Assumes nothing.
-use Rattle.std.specs.Prelude.{false, cond, List, ℕ, ltb, length, get_or, Float}
-use Rattle.std.specs.Float.{nan}
-use Rattle.ground.specs.F32.{c0}
+use Rattle.std.specs.Prelude.{List, ℕ, Float}
 use Rattle.ground.specs.Draw.{Draw, ret, counted, ◌>>=◌}
 use Rattle.ground.specs.Frames.{frames}
 use Rattle.utils.specs.declared.filter.Svf.{Svf}
-use Rattle.utils.specs.declared.filter.Passed.{Passed}
-use Rattle.utils.specs.Filter.{svf_buffer, pass_of}
+use Rattle.utils.specs.Filter.{svf_buffer}
 use Rattle.noise.specs.Excitation.{added}
 use Rattle.waveguide.specs.declared.string.StringNonLinearity.{StringNonLinearity}
 use Rattle.waveguide.specs.declared.string.Params.{Params}
@@ -29,7 +26,3 @@ frames_of shape p f s temp temp2 out aux =
     let e = svf_buffer f temp temp2 in
     counted (frames (frame_of shape p) s e.1 out) >>= λ q.
     ret record { filter = e.0; string = q.0.0.0; lines = q.0.0.1; temp2 = e.1; out = q.0.1; aux = added e.1 aux; drawn = q.1 }
-
--- the filter past the frame i; past the last it stands as it is
-unfoldable pub ahead_of : Svf → List Float → ℕ → Passed
-ahead_of s xs i = cond (ltb i (length xs)) (pass_of s (get_or xs i nan)) (record { svf = s; out = c0; stands = false })

@@ -1,16 +1,15 @@
 // Extended Karplus-Strong, with all the niceties from Rings.
-ghost use Rattle.std.specs.Prelude.{◌≡◌, cond, ◌+◌, ◌≤◌, ◌<◌, ◌-◌, ◌^◌, min, length, get_or};
-ghost use Rattle.std.specs.Float.{nan};
+ghost use Rattle.std.specs.Prelude.{◌≡◌, cond, ◌≤◌, ◌-◌, ◌^◌, min, length};
 ghost use Rattle.ground.specs.F32.{c0·5, c1};
 ghost use Rattle.ground.specs.Draw.{run, Ran};
 ghost use Rattle.waveguide.specs.String.{Good};
-ghost use Rattle.utils.specs.Filter.{Stays};
 ghost use Rattle.noise.specs.Excitation.{added, Alike};
 ghost use Rattle.string_voice.specs.StringVoice.{voice_new, voice_init, voice_reset, cutoff_for, struck, burst, excitation, excitation_words, excitation_counts, Excited, excite_of, amount, Sounded, sound_of, After, render_of};
-ghost use Rattle.string_voice.specs.OneLoop.{Framed, frames_of, ahead_of};
+ghost use Rattle.string_voice.specs.OneLoop.{Framed, frames_of};
 
+use noise::ahead::Passed;
 use noise::excitation::{Counts, Knobs};
-use utils::filter::{FrequencyApproximation, Passed, Svf};
+use utils::filter::{FrequencyApproximation, Svf};
 use waveguide::string::{Block, Live, String};
 
 // A voice. Its lines are lent: the string line of 1,024 numbers and the stretch line of 256 behind it.
@@ -99,38 +98,6 @@ fn counts_of(sustain: bool, left: usize, n: usize) -> Counts
     }
 }
 
-// The excitation filter past the first frame.
-#[tactic(auto, unfolding(crate::specs::OneLoop::ahead_of))]
-fn filter_first(s: Svf, temp: &[f32]) -> Passed
-    ensures { (result ≡ ahead_of s temp.now 0) × Stays result (get_or temp.now 0 nan) }
-{
-    if 0 < temp.len() {
-        return s.pass(temp[0]);
-    }
-    Passed {
-        svf: s,
-        out: 0.0,
-        stands: false,
-    }
-}
-
-// The excitation filter past the frame i + 1, where o is the filter past the frame i.
-#[tactic(auto, unfolding(crate::specs::OneLoop::ahead_of))]
-fn filter_on(o: Passed, temp: &[f32], i: usize) -> Passed
-    requires { Stays o (get_or temp.now i nan) × (i < length temp.now) }
-    ensures { (result ≡ ahead_of o.svf temp.now (i + 1)) × Stays result (get_or temp.now (i + 1) nan) }
-{
-    if i + 1 < temp.len() {
-        return o.pass_on(temp[i], temp[i + 1]);
-    }
-    let svf = o.svf;
-    Passed {
-        svf,
-        out: 0.0,
-        stands: false,
-    }
-}
-
 // Both halves' loops as one. The excitation filter is a frame ahead of the string, so that neither waits for the other.
 fn sound_frames(
     lines: &mut [f32],
@@ -158,14 +125,14 @@ fn sound_frames(
 {
     let mut u = block.begin(v);
     let mut filter = f;
-    let mut ahead = filter_first(f, temp);
+    let mut ahead = Passed::first(f, temp);
     for i in 0..temp.len() {
         let x = ahead.out;
         temp_2[i] = x;
         aux[i] += x;
         u = block.advance(lines, u, x);
-        ahead = filter_on(ahead, temp, i);
-        filter = ahead.svf;
+        ahead = ahead.on(temp, i);
+        filter = ahead.filter;
         out[i] = waveguide::string::mix(out[i], u.string);
     }
     Strung {

@@ -12,11 +12,12 @@ use Rattle.ground.proofs.Draw.{run_then}
 use Rattle.ground.proofs.Frames.{frames_begin, frames_turn, frames_good, length_scan, scan_turn, scan_end}
 use Rattle.ground.proofs.Lead.{lead_begin, lead_turn, lead_puts, lead_end}
 use Rattle.utils.specs.declared.filter.Svf.{Svf}
-use Rattle.utils.specs.Filter.{svf_step, svf_buffer}
+use Rattle.utils.specs.Filter.{svf_step, has_same_memory, svf_buffer}
+use Rattle.noise.proofs.OneAhead.{ahead_step, ahead_end}
 use Rattle.waveguide.specs.declared.string.String.{String}
 use Rattle.waveguide.specs.String.{moved, frame_of, Good}
 use Rattle.waveguide.proofs.Steps.{begun_ahead, begun_drawn, begun_good, begun_run, frame_good, words_to_few, words_turn, words_end}
-use Rattle.string_voice.proofs.OneLoop.{ahead_step, ahead_end, all_frames}
+use Rattle.string_voice.proofs.OneLoop.{filter_of, all_frames}
 use Rattle.string_voice.proofs.string_voice.sound_frames.Goals as goal
 
 pub loop-i-init : goal.loop-i-init
@@ -24,14 +25,14 @@ loop-i-init c =
     let a = c.args in
     let q = c.requires.2 in
     let e = c.begin-u.ensures in
-    let h = c.filter_first-ahead.ensures in (
-      lead_begin (ahead_step a.f a.temp.now 0 h.0) (ahead_end a.f a.temp.now 0 h.0),
+    let h = c.first-ahead.ensures in (
+      lead_begin (ahead_step filter_of has_same_memory a.f a.temp.now 0 h.0) (ahead_end filter_of has_same_memory a.f a.temp.now 0 h.0),
       frames_begin,
       frames_begin,
       begun_ahead a.block.params a.v _ e,
       begun_drawn a.block.params a.v _ e,
       h.1,
-      λ k. sym (ahead_end a.f a.temp.now 0 h.0 k),
+      λ k. sym (ahead_end filter_of has_same_memory a.f a.temp.now 0 h.0 k),
       record {
         all = refl;
         temp2_size = q.temp2_is;
@@ -63,10 +64,10 @@ loop-i-preserved c =
     let lt : l.i < length a.temp.now = omega (arith, z.all, c.loop-i-test) in
     let within : l.i < min (length a.temp.now) (length a.temp_2.now) = omega (arith, z, lt) in
     let x = lead_puts nan v.0 within in
-    let q = c.filter_on-ahead.ensures in
+    let q = c.on-ahead.ensures in
     let m = c.advance-u.ensures in
     let good = begun_good a.block.params a.v _ b.ensures a.lines.now c.requires.0 in (
-      lead_turn nan v.0 within (ahead_step l.ahead.svf a.temp.now (l.i + 1) q.0) (ahead_end l.ahead.svf a.temp.now (l.i + 1) q.0),
+      lead_turn nan v.0 within (ahead_step filter_of has_same_memory l.ahead.filter a.temp.now (l.i + 1) q.0) (ahead_end filter_of has_same_memory l.ahead.filter a.temp.now (l.i + 1) q.0),
       scan_turn nan nan v.1 (omega (arith, z, lt)) (ap (λ (x : Float). (tt, get_or l.aux l.i nan ⊕ x)) x),
       frames_turn nan nan v.2 (omega (arith, z, lt)) (rw (← x, c.mix.ensures) (run_then (moved a.block.shape a.block.params _ (l.u.string, l.lines)) _ l.u.word m.0)),
       m.1,

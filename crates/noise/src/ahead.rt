@@ -1,0 +1,115 @@
+// A filter that is a frame ahead of what it feeds, so that neither waits for the other.
+ghost use Rattle.std.specs.Prelude.{◌≡◌, true, Bool, ◌+◌, ◌<◌, length, get_or, Float};
+ghost use Rattle.std.specs.Float.{nan};
+ghost use Rattle.utils.specs.Filter.{svf_step, has_same_memory};
+ghost use Rattle.noise.specs.Ahead.{pass_of, Stays, ahead_of};
+ghost use Rattle.noise.specs.SvfAhead.{svf_stays};
+
+use utils::filter::Svf;
+
+// A filter whose step, where its memory stands, leaves it as it was.
+pub trait Filter: Copy {
+    // The filter after a sample, and the sample that it gives.
+    ghost step: { Self → Float → Self × Float };
+
+    // Whether the memory of two filters is the same, and what that says of them.
+    ghost same: { Self → Self → Bool };
+
+    ghost alike: { Self → Self → Type 0 };
+
+    fn step(self, x: f32) -> (Self, f32)
+        ensures { result ≡ step self x };
+
+    fn stands(self, after: Self) -> bool
+        ensures { (result ≡ same self after) × (result ≡ true → alike self after) };
+
+    // A filter whose memory a sample leaves as it was is the filter that it was.
+    ghost stays: { (f : Self) (x : Float) → alike f (step f x).0 → (step f x).0 ≡ f };
+}
+
+impl Filter for Svf {
+    ghost step = { λ s x. svf_step s x nan };
+
+    ghost same = { has_same_memory };
+
+    ghost alike = { λ s t. (s.state_1 ≡ t.state_1) × (s.state_2 ≡ t.state_2) };
+
+    ghost stays = { svf_stays };
+
+    fn step(self, x: f32) -> (Svf, f32) {
+        let o = self.process(x);
+        (o.svf, o.out)
+    }
+
+    fn stands(self, after: Svf) -> bool {
+        ground::bits::same(self.state_1, after.state_1)
+            && ground::bits::same(self.state_2, after.state_2)
+    }
+}
+
+// A filter past a sample, what it gave, and whether its memory is as it was.
+#[derive(Clone, Copy)]
+pub struct Passed<F> {
+    pub filter: F,
+    pub out: f32,
+    pub stands: bool,
+}
+
+impl<F: Filter> Passed<F> {
+    // A sample through a filter.
+    pub fn pass(f: F, x: f32) -> Passed<F>
+        ensures { (result ≡ pass_of F.step F.same f x) × Stays F.step F.same result x }
+    {
+        let (filter, out) = f.step(x);
+        Passed {
+            filter,
+            out,
+            stands: f.stands(filter),
+        }
+    }
+
+    // `pass` of y behind that of x: where neither the memory nor the sample has changed, the same again.
+    pub fn pass_on(self, x: f32, y: f32) -> Passed<F>
+        requires { Stays F.step F.same self x }
+        ensures { (result ≡ pass_of F.step F.same self.filter y) × Stays F.step F.same result y }
+    {
+        if self.stands && ground::bits::same(x, y) {
+            self
+        } else {
+            Passed::pass(self.filter, y)
+        }
+    }
+
+    // A filter past the first frame.
+    #[tactic(auto, unfolding(crate::specs::Ahead::ahead_of))]
+    pub fn first(f: F, xs: &[f32]) -> Passed<F>
+        ensures { (result ≡ ahead_of F.step F.same f xs.now 0) × Stays F.step F.same result (get_or xs.now 0 nan) }
+    {
+        if 0 < xs.len() {
+            Passed::pass(f, xs[0])
+        } else {
+            Passed {
+                filter: f,
+                out: 0.0,
+                stands: false,
+            }
+        }
+    }
+
+    // The filter past the frame i + 1, where this is the filter past the frame i.
+    #[tactic(auto, unfolding(crate::specs::Ahead::ahead_of))]
+    pub fn on(self, xs: &[f32], i: usize) -> Passed<F>
+        requires { Stays F.step F.same self (get_or xs.now i nan) × (i < length xs.now) }
+        ensures { (result ≡ ahead_of F.step F.same self.filter xs.now (i + 1)) × Stays F.step F.same result (get_or xs.now (i + 1) nan) }
+    {
+        if i + 1 < xs.len() {
+            self.pass_on(xs[i], xs[i + 1])
+        } else {
+            Passed {
+                filter: self.filter,
+                out: 0.0,
+                stands: false,
+            }
+        }
+    }
+}
