@@ -1,12 +1,10 @@
 -- One loop over the frames is the excitation filter, then aux, then the string: laws over plain values. Assumes nothing.
 use mathlib.Core.Path.{◌≡◌, sym, ◌∙◌, ap}
-use mathlib.Core.Bool.{Bool, false, cond}
+use mathlib.Core.Bool.{cond}
 use mathlib.Core.List.{List}
-use Prim.Native.Nat.{ℕ, ◌-◌, ◌≤◌, ◌<◌, ◌^◌, min}
-use borrow.Author.Tests.{lt-ltb, le-ltb}
-use lib.ListN.{length, get_or}
+use Prim.Native.Nat.{ℕ, ◌-◌, ◌≤◌, ◌^◌, min}
+use lib.ListN.{length}
 use lib.Ieee.{Float, nan}
-use Rattle.ground.specs.F32.{c0}
 use Rattle.ground.specs.Draw.{Draw, Ran, run, counted}
 use Rattle.ground.specs.Frames.{frames}
 use Rattle.ground.proofs.Draw.{run_bind, run_then}

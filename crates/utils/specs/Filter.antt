@@ -1,5 +1,5 @@
 -- filter.rs: the approximate tangents, the DC blocker, and the state variable filter at its low pass. Assumes nothing.
-use Rattle.std.specs.Prelude.{◌≡◌, Bool, true, ◌&&◌, List, Float}
+use Rattle.std.specs.Prelude.{Bool, ◌&&◌, List, Float}
 use Rattle.std.specs.Float.{binary32}
 use Rattle.std.specs.Float.Ieee.{of_bits}
 use Rattle.utils.specs.declared.filter.FrequencyApproximation.{FrequencyApproximation}
@@ -7,7 +7,6 @@ use Rattle.utils.specs.declared.filter.FrequencyApproximation.TheVariants.{Fast,
 use Rattle.utils.specs.declared.filter.DcBlocker.{DcBlocker}
 use Rattle.utils.specs.declared.filter.Svf.{Svf}
 use Rattle.utils.specs.declared.filter.SvfOut.{SvfOut}
-use Rattle.utils.specs.declared.filter.Passed.{Passed}
 use Rattle.ground.specs.F32.{◌⊕◌, ◌⊖◌, ◌⊗◌, ◌⊘◌, c0, c0·01, c1, c100}
 use Rattle.ground.specs.Frames.{scan}
 use Rattle.ground.specs.Floats.{same_float}
@@ -95,16 +94,9 @@ svf_of s x =
       out = lp;
     }
 
+-- whether the memory of two filters is the same
 abbrev pub has_same_memory : Svf → Svf → Bool
 has_same_memory s t = same_float s.state_1 t.state_1 && same_float s.state_2 t.state_2
-
--- process, with whether the memory stands
-unfoldable pub pass_of : Svf → Float → Passed
-pass_of s x = let o = svf_of s x in record { svf = o.svf; out = o.out; stands = has_same_memory s o.svf }
-
--- a filter that stands makes the same of the same sample
-abbrev pub Stays : Passed → Float → Type 0
-Stays o x = o.stands ≡ true → pass_of o.svf x ≡ o
 
 -- process_buffer, at FilterMode::LowPass: the frames of the zipped buffers
 abbrev pub svf_step : Svf → Float → Float → Svf × Float

@@ -1,6 +1,6 @@
 // Zero-delay-feedback filters: the state variable filter at its low pass, and the DC blocker.
-ghost use Rattle.std.specs.Prelude.{◌≡◌, true};
-ghost use Rattle.utils.specs.Filter.{tan_of, dc_init, dc_of, dc_buffer, svf_new, svf_init, svf_reset, svf_setFQ, svf_of, has_same_memory, pass_of, Stays, svf_buffer};
+ghost use Rattle.std.specs.Prelude.{◌≡◌};
+ghost use Rattle.utils.specs.Filter.{tan_of, dc_init, dc_of, dc_buffer, svf_new, svf_init, svf_reset, svf_setFQ, svf_of, svf_buffer};
 
 #[derive(Clone, Copy)]
 pub enum FrequencyApproximation {
@@ -95,40 +95,6 @@ pub struct SvfOut {
     pub out: f32,
 }
 
-// Whether the memory of two filters is the same.
-fn stands(s: Svf, t: Svf) -> bool
-    ensures { (result ≡ has_same_memory s t) × (result ≡ true → (s.state_1 ≡ t.state_1) × (s.state_2 ≡ t.state_2)) }
-{
-    if ground::bits::same(s.state_1, t.state_1) {
-        return ground::bits::same(s.state_2, t.state_2);
-    }
-    false
-}
-
-// The filter after a sample, the sample that it gives, and whether its memory is as it was.
-#[derive(Clone, Copy)]
-pub struct Passed {
-    pub svf: Svf,
-    pub out: f32,
-    pub stands: bool,
-}
-
-impl Passed {
-    // `pass` of y behind that of x: where neither the memory nor the sample has changed, the same again.
-    pub fn pass_on(self, x: f32, y: f32) -> Passed
-        requires { Stays self x }
-        ensures { (result ≡ pass_of self.svf y) × Stays result y }
-    {
-        if self.stands {
-            if ground::bits::same(x, y) {
-                return self;
-            }
-        }
-        let svf = self.svf;
-        svf.pass(y)
-    }
-}
-
 impl Svf {
     #[tactic(auto, unfolding(crate::specs::Filter::svf_new))]
     pub fn new() -> Svf
@@ -190,19 +156,6 @@ impl Svf {
             ..self
         };
         SvfOut { svf, out: lp }
-    }
-
-    // `process`, and whether the filter's memory stands.
-    pub fn pass(self, in_: f32) -> Passed
-        ensures { (result ≡ pass_of self in_) × Stays result in_ }
-    {
-        let o = self.process(in_);
-        let svf = o.svf;
-        Passed {
-            svf,
-            out: o.out,
-            stands: stands(self, svf),
-        }
     }
 
     // `process_buffer` at the low pass: the frames that both buffers have.
