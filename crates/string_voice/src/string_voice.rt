@@ -1,6 +1,5 @@
 // Extended Karplus-Strong, with all the niceties from Rings.
 ghost use Rattle.std.specs.Prelude.{◌≡◌, cond, ◌≤◌, ◌-◌, ◌^◌, min, length};
-ghost use Rattle.ground.specs.F32.{c0·5, c1};
 ghost use Rattle.ground.specs.Draw.{run, Ran};
 ghost use Rattle.waveguide.specs.String.{Good};
 ghost use Rattle.noise.specs.Excitation.{added, Alike};
@@ -45,12 +44,6 @@ fn cutoff_for(k: Knobs) -> f32
     let brightness = noise::excitation::raise(k.accent, k.brightness);
     let ratio = utils::units::semitones_to_ratio((brightness * (2.0 - brightness) - 0.5) * 72.0);
     ground::floats::min(4.0 * k.f0 * ratio, 0.499)
-}
-
-fn resonance(sustain: bool) -> f32
-    ensures { result ≡ cond sustain c1 c0·5 }
-{
-    if sustain { 1.0 } else { 0.5 }
 }
 
 // Noise in the first m frames, silence behind.
@@ -124,7 +117,6 @@ fn sound_frames(
     } }
 {
     let mut u = block.begin(v);
-    let mut filter = f;
     let mut ahead = Passed::first(f, temp);
     for i in 0..temp.len() {
         let x = ahead.out;
@@ -132,11 +124,10 @@ fn sound_frames(
         aux[i] += x;
         u = block.advance(lines, u, x);
         ahead = ahead.on(temp, i);
-        filter = ahead.filter;
         out[i] = waveguide::string::mix(out[i], u.string);
     }
     Strung {
-        filter,
+        filter: ahead.filter,
         string: u.string,
         word: u.word,
         drawn: u.drawn,
@@ -196,7 +187,7 @@ impl StringVoice {
             return self;
         }
         let filter = self.excitation_filter;
-        let q = resonance(k.sustain);
+        let q = if k.sustain { 1.0 } else { 0.5 };
         StringVoice {
             excitation_filter: filter.set_f_q(cutoff_for(k), q, FrequencyApproximation::Dirty),
             remaining_noise_samples: ground::floats::whole_part(1.0 / k.f0),

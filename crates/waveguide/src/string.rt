@@ -238,33 +238,6 @@ fn params_of(s: String, f0: f32, amount: f32, d: Damping, n: usize) -> Params
     }
 }
 
-// The string line read by the cubic.
-#[tactic(auto, unfolding(crate::specs::String::plain, ground::specs::Part::part))]
-fn read_plain(lines: &[f32], s: String, delay: f32, guess: usize) -> Heard
-    requires { Good (s, lines.now) }
-    ensures { (result, lines.now) ≡ plain s delay lines.now }
-{
-    Heard {
-        s: utils::delay_line::read_hermite_near(&lines[0..1024], s.string, delay, guess),
-        stretch: s.stretch,
-    }
-}
-
-// The string line read in a straight line, and passed through the stretch line.
-#[tactic(auto, unfolding(crate::specs::String::allpassed, ground::specs::Part::part, ground::specs::Part::put))]
-fn read_allpass(lines: &mut [f32], s: String, main: f32, ap: f32, gain: f32) -> Heard
-    requires { Good (s, lines.old) }
-    ensures { (result, lines.new) ≡ allpassed s main ap gain lines.old }
-{
-    let x = utils::delay_line::read_with_delay_frac(&lines[0..1024], s.string, main);
-    let delay = ground::floats::whole_part(ap);
-    let o = utils::delay_line::allpass(&mut lines[1024..1280], s.stretch, x, delay, gain);
-    Heard {
-        s: o.out,
-        stretch: o.write_ptr,
-    }
-}
-
 // A frame's output.
 #[tactic(auto, unfolding(crate::specs::String::mixed))]
 pub fn mix(y: f32, s: String) -> f32
@@ -320,6 +293,33 @@ impl String {
             out_sample_0: 0.0,
             out_sample_1: 0.0,
             ..self
+        }
+    }
+
+    // The string line read by the cubic.
+    #[tactic(auto, unfolding(crate::specs::String::plain, ground::specs::Part::part))]
+    fn read_plain(self, lines: &[f32], delay: f32, guess: usize) -> Heard
+        requires { Good (self, lines.now) }
+        ensures { (result, lines.now) ≡ plain self delay lines.now }
+    {
+        Heard {
+            s: utils::delay_line::read_hermite_near(&lines[0..1024], self.string, delay, guess),
+            stretch: self.stretch,
+        }
+    }
+
+    // The string line read in a straight line, and passed through the stretch line.
+    #[tactic(auto, unfolding(crate::specs::String::allpassed, ground::specs::Part::part, ground::specs::Part::put))]
+    fn read_allpass(self, lines: &mut [f32], main: f32, ap: f32, gain: f32) -> Heard
+        requires { Good (self, lines.old) }
+        ensures { (result, lines.new) ≡ allpassed self main ap gain lines.old }
+    {
+        let x = utils::delay_line::read_with_delay_frac(&lines[0..1024], self.string, main);
+        let delay = ground::floats::whole_part(ap);
+        let o = utils::delay_line::allpass(&mut lines[1024..1280], self.stretch, x, delay, gain);
+        Heard {
+            s: o.out,
+            stretch: o.write_ptr,
         }
     }
 
@@ -415,15 +415,14 @@ impl Block {
     {
         if self.stretches(delay) {
             let p = self.params;
-            read_allpass(
+            s.read_allpass(
                 lines,
-                s,
                 self.main_delay(delay),
                 delay * p.stretch_point,
                 p.ap_gain,
             )
         } else {
-            read_plain(lines, s, delay, guess)
+            s.read_plain(lines, delay, guess)
         }
     }
 

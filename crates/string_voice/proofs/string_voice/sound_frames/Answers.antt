@@ -1,5 +1,5 @@
 -- `string_voice::sound_frames` meets its contract: the loops that it joins, each by the law of loops over frames.
-use mathlib.Core.Path.{refl, sym, ◌∙◌, ap}
+use mathlib.Core.Path.{refl, ◌∙◌, ap}
 use mathlib.Core.List.{List}
 use Prim.Native.Nat.{◌+◌, ◌≤◌, ◌<◌, min}
 use native.Mathlib.Omega.{arith}
@@ -11,7 +11,6 @@ use Rattle.ground.specs.Frames.{frames}
 use Rattle.ground.proofs.Draw.{run_then}
 use Rattle.ground.proofs.Frames.{frames_begin, frames_turn, frames_good, length_scan, scan_turn, scan_end}
 use Rattle.ground.proofs.Lead.{lead_begin, lead_turn, lead_puts, lead_end}
-use Rattle.utils.specs.declared.filter.Svf.{Svf}
 use Rattle.utils.specs.Filter.{svf_step, has_same_memory, svf_buffer}
 use Rattle.noise.proofs.OneAhead.{ahead_step, ahead_end}
 use Rattle.waveguide.specs.declared.string.String.{String}
@@ -32,7 +31,6 @@ loop-i-init c =
       begun_ahead a.block.params a.v _ e,
       begun_drawn a.block.params a.v _ e,
       h.1,
-      λ k. sym (ahead_end filter_of has_same_memory a.f a.temp.now 0 h.0 k),
       record {
         all = refl;
         temp2_size = q.temp2_is;
@@ -50,7 +48,7 @@ advance-u-requires c =
     let l = c.loop-i in (
       frames_good Good (frame_good a.block.shape a.block.params) (begun_good a.block.params a.v _ b.ensures a.lines.now c.requires.0) l.invariant.2,
       l.invariant.3,
-      omega (arith, l.invariant.4, words_to_few a.block.shape a.block.params b.result.string.src_phase l.i, l.invariant.2.within, l.invariant.7.few, l.invariant.7.out_size),
+      omega (arith, l.invariant.4, words_to_few a.block.shape a.block.params b.result.string.src_phase l.i, l.invariant.2.within, l.invariant.6.few, l.invariant.6.out_size),
     )
 
 pub loop-i-preserved : goal.loop-i-preserved
@@ -59,7 +57,7 @@ loop-i-preserved c =
     let b = c.begin-u in
     let l = c.loop-i in
     let v = l.invariant in
-    let z = v.7 in
+    let z = v.6 in
     let xs = (svf_buffer a.f a.temp.now a.temp_2.now).1 in
     let lt : l.i < length a.temp.now = omega (arith, z.all, c.loop-i-test) in
     let within : l.i < min (length a.temp.now) (length a.temp_2.now) = omega (arith, z, lt) in
@@ -73,7 +71,6 @@ loop-i-preserved c =
       m.1,
       words_turn a.block.shape a.block.params (b.result.string, a.lines.now) xs a.out.now b.result.word good l.i l.u.drawn _ v.2 (omega (arith, z, lt)) v.4 m.2,
       q.1,
-      λ k. refl,
       z,
     )
 
@@ -83,12 +80,12 @@ returns c =
     let b = c.begin-u in
     let l = c.loop-i in
     let v = l.invariant in
-    let z = v.7 in
+    let z = v.6 in
     let xs = (svf_buffer a.f a.temp.now a.temp_2.now).1 in
     let good = begun_good a.block.params a.v _ b.ensures a.lines.now c.requires.0 in
     let past : length a.temp.now ≤ l.i = omega (arith, z.all, c.loop-i-test) in
     all_frames a.block.shape a.block.params a.f (a.v.string, a.lines.now) a.temp.now a.temp_2.now a.out.now a.aux.now a.v.word
-    (ap (λ (f : Svf). (f, l.temp_2)) (v.6 past) ∙ lead_end v.0 past)
+    (lead_end v.0 past)
     (ap (λ (q : Unit {0} × List Float). q.1) (scan_end v.1 (omega (arith, z, c.loop-i-test))))
     (begun_run a.block.params a.v b.result b.ensures (λ (t : String). counted (frames (frame_of a.block.shape a.block.params) (t, a.lines.now) xs a.out.now))
     (words_end a.block.shape a.block.params (b.result.string, a.lines.now) xs a.out.now b.result.word good l.i l.u.drawn v.2 (omega (arith, z, c.loop-i-test)) v.4))
