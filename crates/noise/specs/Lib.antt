@@ -1,5 +1,6 @@
 -- What the functions of `noise` are proved equal to.
 pub mod Ahead
+pub mod Buffers
 pub mod Dust
 pub mod Excitation
 pub mod SvfAhead

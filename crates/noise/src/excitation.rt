@@ -23,6 +23,14 @@ pub struct Counts {
     pub dispersion: usize,
 }
 
+// A voice after a render or a half of one, the generator's word, and the words drawn.
+#[derive(Clone, Copy)]
+pub struct Rendered<V> {
+    pub voice: V,
+    pub word: u32,
+    pub counts: Counts,
+}
+
 // x moved a quarter of the way to 1, as far as the accent says.
 #[tactic(auto, unfolding(crate::specs::Excitation::raised))]
 pub fn raise(accent: f32, x: f32) -> f32
