@@ -12,7 +12,8 @@ use lib.Ieee.Scale.{finite}
 use lib.Ieee.Positive.{positive, between}
 use Rattle.ground.specs.F32.{◌⊕◌, ◌⊖◌, ◌⊗◌, ◌⊘◌}
 use Rattle.ground.specs.Floats.{min_f, clamp_f}
-use Rattle.bounds.proofs.Order.{zero_f, and_true, le_refl_float, le_trans_float, le_or, finite_between, neg_le, neg_finite, lt→le, not-lt→le, le→right, finite_not_nan}
+use Rattle.std.proofs.lemmas.Float.{le_of_not-lt, le_right}
+use Rattle.bounds.proofs.Order.{zero_f, and_true, le_refl_float, le_trans_float, le_or, finite_between, neg_le, neg_finite, lt→le, finite_not_nan}
 use Rattle.bounds.proofs.Monotone.{add_mono, sub_mono, mul_le, mul_ge, mul_comm_float, div_le, div_ge, div_up}
 
 -- ---- ends that are written short: n, -n, and m / 2 ^ (k + 1)
@@ -218,8 +219,8 @@ pub clamp_in : (x lo hi : Float) → T (not (is_nan x)) → T (inside lo lo hi) 
 unfolding clamp_f
 clamp_in x lo hi p t =
     let y = cond (lt x lo) lo x in
-    let h = first (lt x lo) (not-lt→le x lo p (finite_not_nan lo ends.low_finite)) in
-    second y h (lt hi y) (not-lt→le hi y (finite_not_nan hi ends.high_finite) (le→right lo y h))
+    let h = first (lt x lo) (le_of_not-lt x lo p (finite_not_nan lo ends.low_finite)) in
+    second y h (lt hi y) (le_of_not-lt hi y (finite_not_nan hi ends.high_finite) (le_right lo y h))
   where
     ends : Between lo lo hi
     ends = in_test lo lo hi t

@@ -6,9 +6,10 @@ use mathlib.Core.Bool.{Bool, true, false, not, ◌&&◌, ◌||◌, cond}
 use Prim.Native.Nat.{ℕ, zero, suc, ◌+◌, ◌*◌, ◌^◌, ◌≤◌, ◌<◌}
 use native.Mathlib.Nat.{le_refl, eq-or-lt_of_le, eq-zero-or-pos, le_of_eq, le_of_lt, mul_comm, mul_assoc, mul_left_comm, add-mul, mul-add, mul-le-mul_right, le_of_mul-le-mul_right, zero-lt-suc}
 use native.Mathlib.Omega.{arith}
+use Rattle.std.proofs.lemmas.Float as Floats
 use lib.Dec.{T, ltb, eqb, ltb→lt, lt→ltb, nltb→le, eqb→eq, eqb_refl, T_not}
 use lib.IntN.{pos}
-use lib.Ieee.{Float, nan, inf, fin, binary32, prec, emax, low, up, down, odd, units, round, neg, lt, le, eq, is_nan}
+use lib.Ieee.{Float, nan, inf, fin, binary32, prec, emax, low, up, down, odd, units, round, neg, lt, le, is_nan}
 use lib.Ieee.Fits.{down_pos, round_is, and_i}
 use lib.Ieee.Scale.{finite}
 
@@ -132,59 +133,25 @@ number→le (fin true m e) (inf _) p q h = elim q [ ]
 pub ruleset sorted = (add-mul, mul-add, mul_assoc, mul_comm, mul_left_comm)
 
 -- ---- `le` is an order on all floats but NaN
--- (p - q) / d ≤ (p' - q') / d' ≤ (p'' - q'') / d''
-chain : (p q d p' q' d' p'' q'' d'' : ℕ) → 0 < d' → AtMost p q d p' q' d' → AtMost p' q' d' p'' q'' d'' → AtMost p q d p'' q'' d''
-chain p q d p' q' d' p'' q'' d'' D h k =
-    le_of_mul-le-mul_right
-    (let a = simp sorted at (mul-le-mul_right d'' h) in
-    let b = simp sorted at (mul-le-mul_right d k) in
-    simp sorted (omega arith))
-    D
-
-finite_trans : (x y z : Float) → T (finite x) → T (finite y) → T (finite z) → T (le x y) → T (le y z) → T (le x z)
-finite_trans x y z p q r h k =
-    number→le x z p r (chain (plus x) (less x) (den x) (plus y) (less y) (den y) (plus z) (less z) (den z) (den_pos y) (le→number x y p q h) (le→number y z q r k))
-
 pub le_trans_float : (x y z : Float) → T (le x y) → T (le y z) → T (le x z)
-unfolding le
-le_trans_float nan y z h k = absurd h
-le_trans_float (inf s) nan z h k = absurd h
-le_trans_float (inf true) (inf t) nan h k = absurd k
-le_trans_float (inf true) (inf t) (inf true) h k = tt
-le_trans_float (inf true) (inf t) (inf false) h k = tt
-le_trans_float (inf true) (inf t) (fin u l c) h k = tt
-le_trans_float (inf true) (fin t n d) nan h k = absurd k
-le_trans_float (inf true) (fin t n d) (inf true) h k = tt
-le_trans_float (inf true) (fin t n d) (inf false) h k = tt
-le_trans_float (inf true) (fin t n d) (fin u l c) h k = tt
-le_trans_float (inf false) (inf true) z h k = absurd h
-le_trans_float (inf false) (inf false) z h k = k
-le_trans_float (inf false) (fin t n d) z h k = absurd h
-le_trans_float (fin s m e) nan z h k = absurd h
-le_trans_float (fin s m e) (inf true) z h k = absurd h
-le_trans_float (fin s m e) (inf false) nan h k = absurd k
-le_trans_float (fin s m e) (inf false) (inf true) h k = absurd k
-le_trans_float (fin s m e) (inf false) (inf false) h k = tt
-le_trans_float (fin s m e) (inf false) (fin u l c) h k = absurd k
-le_trans_float (fin s m e) (fin t n d) nan h k = absurd k
-le_trans_float (fin s m e) (fin t n d) (inf true) h k = absurd k
-le_trans_float (fin s m e) (fin t n d) (inf false) h k = tt
-le_trans_float (fin s m e) (fin t n d) (fin u l c) h k = finite_trans (fin s m e) (fin t n d) (fin u l c) tt tt tt h k
+le_trans_float = Floats.le_trans
+
+pub finite_not_nan : (x : Float) → T (finite x) → T (not (is_nan x))
+unfolding is_nan
+finite_not_nan (fin s m e) p = tt
+finite_not_nan nan p = elim p [ ]
+finite_not_nan (inf _) p = elim p [ ]
 
 pub le_refl_float : (x : Float) → T (finite x) → T (le x x)
-le_refl_float x p = number→le x x p p (le_refl _)
+le_refl_float x p = Floats.le_refl x (finite_not_nan x p)
 
 -- of two finite floats one is at most the other
 pub le_or : (x y : Float) → T (finite x) → T (finite y) → T (le x y) ⊎ T (le y x)
-le_or x y p q =
-    let a = plus x * den y + less y * den x in
-    let b = plus y * den x + less x * den y in
-    go (ltb b a) (ltb→lt b a) (nltb→le b a)
+le_or x y p q = go (le x y) (λ n. Floats.le_of_lt y x (Floats.lt_of_not-le x y (finite_not_nan x p) (finite_not_nan y q) n))
   where
-    go : (t : Bool) → (T t → plus y * den x + less x * den y < plus x * den y + less y * den x)
-        → (T (not t) → plus x * den y + less y * den x ≤ plus y * den x + less x * den y) → T (le x y) ⊎ T (le y x)
-    go true f g = inr (number→le y x q p (le_of_lt (f tt)))
-    go false f g = inl (number→le x y p q (g tt))
+    go : (t : Bool) → (T (not t) → T (le y x)) → T t ⊎ T (le y x)
+    go true f = inl tt
+    go false f = inr (f tt)
 
 -- not at most is above, as numbers
 pub not-le→number : (x y : Float) → T (finite x) → T (finite y) → T (not (le x y)) → plus y * den x + less x * den y < plus x * den y + less y * den x
@@ -197,92 +164,24 @@ not-le→number x y p q n =
     go true f g = f tt
     go false f g = absurd (g tt)
 
-pub not-le→le : (x y : Float) → T (finite x) → T (finite y) → T (not (le x y)) → T (le y x)
-not-le→le x y p q n = number→le y x q p (le_of_lt (not-le→number x y p q n))
-
 -- ---- `lt`
 pub lt→le : (x y : Float) → T (lt x y) → T (le x y)
-unfolding le
-lt→le x y h = or_l (lt x y) (eq x y) h
+lt→le = Floats.le_of_lt
 
+-- not below is at least
 pub finite_not_lt : (x y : Float) → T (finite x) → T (finite y) → T (not (lt x y)) → T (le y x)
-unfolding lt
-finite_not_lt (fin false m e) (fin false n d) p q h = number→le (fin false n d) (fin false m e) q p (omega (arith, nltb→le (m * up e * down d) (n * up d * down e) h))
-finite_not_lt (fin false m e) (fin true n d) p q h = number→le (fin true n d) (fin false m e) q p (omega arith)
-finite_not_lt (fin true m e) (fin false n d) p q h = number→le (fin false n d) (fin true m e) q p (omega (arith, nltb→le 0 (m * up e * down d + n * up d * down e) h))
-finite_not_lt (fin true m e) (fin true n d) p q h = number→le (fin true n d) (fin true m e) q p (omega (arith, nltb→le (n * up d * down e) (m * up e * down d) h))
-finite_not_lt nan y p q h = elim p [ ]
-finite_not_lt (inf _) y p q h = elim p [ ]
-finite_not_lt (fin false m e) nan p q h = elim q [ ]
-finite_not_lt (fin false m e) (inf _) p q h = elim q [ ]
-finite_not_lt (fin true m e) nan p q h = elim q [ ]
-finite_not_lt (fin true m e) (inf _) p q h = elim q [ ]
+finite_not_lt x y p q = Floats.le_of_not-lt x y (finite_not_nan x p) (finite_not_nan y q)
 
--- two that are no NaN: not below is at least
-pub not-lt→le : (x y : Float) → T (not (is_nan x)) → T (not (is_nan y)) → T (not (lt x y)) → T (le y x)
-unfolding lt le is_nan
-not-lt→le nan y p q h = absurd p
-not-lt→le (inf s) nan p q h = absurd q
-not-lt→le (inf true) (inf true) p q h = tt
-not-lt→le (inf true) (inf false) p q h = absurd h
-not-lt→le (inf false) (inf true) p q h = tt
-not-lt→le (inf false) (inf false) p q h = tt
-not-lt→le (inf true) (fin t n d) p q h = absurd h
-not-lt→le (inf false) (fin t n d) p q h = tt
-not-lt→le (fin s m e) nan p q h = absurd q
-not-lt→le (fin s m e) (inf true) p q h = tt
-not-lt→le (fin s m e) (inf false) p q h = absurd h
-not-lt→le (fin s m e) (fin t n d) p q h = finite_not_lt (fin s m e) (fin t n d) tt tt h
+-- x ≤ y < z, and x < y ≤ z
+pub lt_of_le : (x y z : Float) → T (le x y) → T (lt y z) → T (lt x z)
+lt_of_le = Floats.lt_of_le_of_lt
+
+pub lt_then_le : (x y z : Float) → T (lt x y) → T (le y z) → T (lt x z)
+lt_then_le = Floats.lt_of_lt_of_le
 
 -- below is not at least
 pub lt→not-le : (x y : Float) → T (lt x y) → T (le y x) → ⊥
-unfolding lt le
-lt→not-le nan y h k = h
-lt→not-le (inf s) nan h k = h
-lt→not-le (inf true) (inf true) h k = h
-lt→not-le (inf true) (inf false) h k = k
-lt→not-le (inf false) (inf t) h k = h
-lt→not-le (inf true) (fin t n d) h k = k
-lt→not-le (inf false) (fin t n d) h k = h
-lt→not-le (fin s m e) nan h k = h
-lt→not-le (fin s m e) (inf true) h k = h
-lt→not-le (fin s m e) (inf false) h k = k
-lt→not-le (fin false m e) (fin false n d) h k = omega (arith, ltb→lt (m * up e * down d) (n * up d * down e) h, le→number (fin false n d) (fin false m e) tt tt k)
-lt→not-le (fin false m e) (fin true n d) h k = h
-lt→not-le (fin true m e) (fin false n d) h k = omega (arith, ltb→lt 0 (m * up e * down d + n * up d * down e) h, le→number (fin false n d) (fin true m e) tt tt k)
-lt→not-le (fin true m e) (fin true n d) h k = omega (arith, ltb→lt (n * up d * down e) (m * up e * down d) h, le→number (fin true n d) (fin true m e) tt tt k)
-
--- what is compared is no NaN
-pub le→right : (x y : Float) → T (le x y) → T (not (is_nan y))
-unfolding le is_nan
-le→right nan nan h = absurd h
-le→right (inf s) nan h = absurd h
-le→right (fin s m e) nan h = absurd h
-le→right x (inf t) h = tt
-le→right x (fin t n d) h = tt
-
-pub le→left : (x y : Float) → T (le x y) → T (not (is_nan x))
-unfolding le is_nan
-le→left nan y h = absurd h
-le→left (inf s) y h = tt
-le→left (fin s m e) y h = tt
-
--- x ≤ y < z, and x < y ≤ z
-passed : (b : Bool) → (T (not b) → ⊥) → T b
-passed true f = tt
-passed false f = f tt
-
-pub lt_of_le : (x y z : Float) → T (le x y) → T (lt y z) → T (lt x z)
-lt_of_le x y z h k = passed (lt x z) (λ n. lt→not-le y z k (le_trans_float z x y (not-lt→le x z (le→left x y h) (le→right y z (lt→le y z k)) n) h))
-
-pub lt_then_le : (x y z : Float) → T (lt x y) → T (le y z) → T (lt x z)
-lt_then_le x y z h k = passed (lt x z) (λ n. lt→not-le x y h (le_trans_float y z x k (not-lt→le x z (le→left x y (lt→le x y h)) (le→right y z k) n)))
-
-pub finite_not_nan : (x : Float) → T (finite x) → T (not (is_nan x))
-unfolding is_nan
-finite_not_nan (fin s m e) p = tt
-finite_not_nan nan p = elim p [ ]
-finite_not_nan (inf _) p = elim p [ ]
+lt→not-le x y h k = Floats.lt_irrefl x (lt_then_le x y x h k)
 
 -- what is at most a finite float and at least another is finite
 pub finite_between : (lo x hi : Float) → T (finite lo) → T (finite hi) → T (le lo x) → T (le x hi) → T (finite x)
