@@ -1,12 +1,12 @@
 -- Whole parts of an f32: from 1 on and below 2^23 by its bits, and from 2^23 on and below 2^64 the float is its own whole part. Assumes nothing.
-use Rattle.std.proofs.Common.{◌≡◌, ℕ, zero, suc, ◌+◌, ◌-◌, ◌*◌, ◌/◌, ◌%◌, ◌^◌, ◌<◌, ◌≤◌, min, Bool, true, false, cond, not, ◌&&◌, ◌||◌, T, eqb, ltb, leb, ℤ, pos, negsuc, sym, refl, ap, ◌∙◌, true≢false, le_trans, le_of_eq, lt_of_lt_of_le, lt_of_le_of_lt, le_of_lt, mul-le-mul_right, mod-lt, zero-lt-suc, mul_comm, div-lt_iff_lt-mul, lt_of_mul-lt-mul_right, mul-lt-mul_of_pos_right, mul-pos, one-mul, pow-suc, le-div_iff_mul-le, div-le_self, mul_right_comm, le_of_mul-le-mul_right, div-one, arith, ltb→lt, lt→ltb, leb→le, pow_pos, pow-add, shr-shr, ltb-false, ltb-true, lt-ltb, eq-eqb, eqb-true}
+use Rattle.std.proofs.Common.{◌≡◌, ℕ, zero, suc, ◌+◌, ◌-◌, ◌*◌, ◌/◌, ◌%◌, ◌^◌, ◌<◌, ◌≤◌, min, Bool, true, false, cond, not, ◌&&◌, ◌||◌, T, eqb, ltb, leb, ℤ, pos, negsuc, sym, refl, ap, ◌∙◌, true≢false, le_trans, le_of_eq, lt_of_lt_of_le, lt_of_le_of_lt, le_of_lt, mul-le-mul_right, mod-lt, zero-lt-suc, mul_comm, div-lt_iff_lt-mul, lt_of_mul-lt-mul_right, mul-lt-mul_of_pos_right, one-mul, pow-suc, le-div_iff_mul-le, div-le_self, mul_right_comm, le_of_mul-le-mul_right, div-one, arith, ltb→lt, leb→le, pow_pos, pow-add, shr-shr, ltb-false, ltb-true, lt-ltb, eq-eqb, eqb-true}
+use Rattle.std.proofs.lemmas.Float as Floats
 use mathlib.Core.Bool.{false≢true}
 use native.Mathlib.Nat.{div-div-eq-div-mul, mul-div-mul_right}
 use lib.Ieee.{Float, nan, inf, fin, binary32, up, down, size, lt, le, is_nan, fits, of_int, of_bits, to_bits, to_unsigned}
 use lib.Ieee.Digits.{size-le, size_reaches}
 use lib.Ieee.Fits.{down_pos, and_l, and_r, of_int-fits, kept-lt}
 use lib.Ieee.Nearest.{div_same}
-use lib.Ieee.Order.{le_of_values}
 use lib.Ieee.Positive.{above, above_of_le, positive_of_value}
 use denote.Floats.{passes, is_true}
 use lib.Ieee.Exact.{HasValue}
@@ -178,11 +178,7 @@ no_minus k m e h = above_of_le (fin false 1 (pos k)) (fin true m e) tt (passes (
 
 pub above_minus_one : (x : Float) → le c1 x ≡ true → T (lt (fin true 1 (pos 0)) x)
 unfolding of_bits lt
-above_minus_one nan h = absurd (false≢true (unfold le in h))
-above_minus_one (inf true) h = absurd (false≢true (unfold le in h))
-above_minus_one (inf false) h = tt
-above_minus_one (fin true m e) h = absurd (no_minus 0 m e h)
-above_minus_one (fin false m e) h = lt→ltb 0 (1 * down e + m * up e * 1) (omega (arith, down_pos e))
+above_minus_one x h = Floats.lt_of_lt_of_le (fin true 1 (pos 0)) c1 x tt (passes (le c1 x) h)
 
 pub below_two_to64 : (x : Float) → lt x two_to64 ≡ true → T (lt x (fin false 1 (pos 64)))
 unfolding of_bits
@@ -202,26 +198,13 @@ untrue : (b : Bool) → (b ≡ true → ⊥) → b ≡ false
 untrue true f = absurd (f refl)
 untrue false f = refl
 
-minus_below : (k m : ℕ) (e : ℤ) → lt (fin true m e) (fin false 1 (pos k)) ≡ true
-unfolding lt
-minus_below k m e = lt-ltb 0 (m * up e * 1 + 1 * 2 ^ k * down e) (omega (arith, mul-pos (pow_pos k) (down_pos e), tidy k m e))
-
 -- below 2^64 is not at or above it
 pub not_past : (x : Float) → lt x two_to64 ≡ true → le two_to64 x ≡ false
-unfolding of_bits
-not_past nan h = absurd (false≢true (unfold lt in h))
-not_past (inf true) h = unfold le in refl
-not_past (inf false) h = absurd (false≢true (unfold lt in h))
-not_past (fin true m e) h = untrue _ (no_minus 64 m e)
-not_past (fin false m e) h = untrue _ (λ g. omega (arith, under 64 m e h, reached 64 m e g))
+not_past x h = untrue _ (λ g. Floats.lt_irrefl x (Floats.lt_of_lt_of_le x two_to64 x (passes (lt x two_to64) h) (passes (le two_to64 x) g)))
 
 pub short : (x : Float) → lt x two_to23 ≡ true → lt x two_to64 ≡ true
-unfolding of_bits
-short nan h = absurd (false≢true (unfold lt in h))
-short (inf true) h = unfold lt in refl
-short (inf false) h = absurd (false≢true (unfold lt in h))
-short (fin true m e) h = minus_below 64 m e
-short (fin false m e) h = unfold lt in lt-ltb (m * up e * 1) (1 * 2 ^ 64 * down e) (omega (arith, under 23 m e h))
+unfolding of_bits lt
+short x h = is_true (lt x two_to64) (Floats.lt_trans x two_to23 two_to64 (passes (lt x two_to23) h) tt)
 
 -- ---- from 2^23 on
 
@@ -276,26 +259,16 @@ whole_parts x n t h k l e =
     rw (not_past x l, whole_again x t h k l, w)
 
 past : (x : Float) → le c1 x ≡ true → lt x two_to64 ≡ false → le two_to64 x ≡ true
-unfolding of_bits
-past nan h k = absurd (false≢true (unfold le in h))
-past (inf true) h k = absurd (false≢true (unfold le in h))
-past (inf false) h k = unfold le in refl
-past (fin true m e) h k = absurd (no_minus 0 m e h)
-past (fin false m e) h k =
-    is_true (le two_to64 (fin false m e))
-    (le_of_values two_to64 (fin false m e) (2 ^ 64) 1 (m * up e) (down e) (zero-lt-suc 0) (down_pos e) (refl, refl) (refl, refl) (omega (arith, over 64 m e k)))
+unfolding of_bits is_nan
+past x h k = is_true (le two_to64 x) (Floats.le_of_not-lt x two_to64 (Floats.le_right c1 x (passes (le c1 x) h)) tt (Floats.T_from_false (lt x two_to64) k))
 
 pub past_parts : (x : Float) → le c1 x ≡ true → lt x two_to64 ≡ false → ◌≡◌ {A = Parts} (record { integral = 0; fractional = c0 }) (split_of x)
 unfolding whole_part fraction_of
 past_parts x h k = rw (h, k, past x h k)
 
 low : (x : Float) → le c1 x ≡ false → le two_to64 x ≡ false
-unfolding of_bits
-low nan h = unfold le in refl
-low (inf true) h = unfold le in refl
-low (inf false) h = absurd (true≢false (unfold le in h))
-low (fin true m e) h = untrue _ (no_minus 64 m e)
-low (fin false m e) h = untrue _ (λ g. omega (arith, missed 0 m e h, reached 64 m e g))
+unfolding of_bits le
+low x h = untrue _ (λ g. true≢false (sym (is_true (le c1 x) (Floats.le_trans c1 two_to64 x tt (passes (le two_to64 x) g))) ∙ h))
 
 zero_is : of_int binary32 (pos 0) ≡ c0
 unfolding of_int of_bits
