@@ -91,7 +91,8 @@ fn counts_of(sustain: bool, left: usize, n: usize) -> Counts
     }
 }
 
-// Both halves' loops as one. The excitation filter is a frame ahead of the string, so that neither waits for the other.
+// Both halves' loops as one, by the frame's index, since each frame stands in four buffers. The excitation filter is a frame ahead of the string, so that
+// neither waits for the other.
 fn sound_frames(
     lines: &mut [f32],
     v: Live,

@@ -13,7 +13,8 @@ pub enum StringNonLinearity {
     Dispersion(f32),
 }
 
-// A string's state. Its lines are lent: the string line of 1,024 and the stretch line of 256 behind it.
+// A string's state. Its lines are lent: the string line of 1,024 and the stretch line of 256 behind it. That its places lie in them (`Good`) is asked where
+// they are read and is no invariant: a caller's bank may hold any places.
 #[derive(Clone, Copy)]
 pub struct String {
     pub string: usize,
@@ -497,7 +498,7 @@ impl Block {
         }
     }
 
-    // The loop of `process`. The string is one state over all frames, so the frames are counted.
+    // The loop of `process`, by the frame's index: of a slice that is written through an iterator a proof knows the length alone.
     fn run_frames(self, lines: &mut [f32], v: Live, in_: &[f32], out: &mut [f32]) -> Played
         requires { Good (v.string, lines.old) × (length out.old ≤ 2 ^ 24) }
         ensures { run (counted (frames (frame_of self.shape self.params) (v.string, lines.old) in_.now out.old)) v.word
@@ -536,6 +537,7 @@ pub fn prepare(
     Prepared { string, block }
 }
 
+// A block of the string. The knobs come one by one, as in the Rust.
 #[tactic(auto, using(crate::proofs::Blocks::prepared_good), unfolding(crate::specs::String::strung, crate::specs::String::prepared_of))]
 pub fn process(
     lines: &mut [f32],
