@@ -2,12 +2,14 @@
 ghost use Rattle.std.specs.Prelude.{◌≡◌, cond, ◌≤◌, ◌-◌, ◌^◌, min, length};
 ghost use Rattle.ground.specs.Draw.{run, Ran};
 ghost use Rattle.waveguide.specs.String.{Good};
-ghost use Rattle.noise.specs.Excitation.{added, Alike};
+ghost use Rattle.noise.specs.Excitation.{Alike};
+ghost use Rattle.noise.specs.Buffers.{IsAlike, IsSame};
 ghost use Rattle.string_voice.specs.StringVoice.{voice_new, voice_init, voice_reset, cutoff_for, struck, burst, excitation, excitation_words, excitation_counts, Excited, excite_of, amount, Sounded, sound_of, After, render_of};
 ghost use Rattle.string_voice.specs.OneLoop.{Framed, frames_of};
 
 use noise::ahead::Passed;
-use noise::excitation::{Counts, Knobs};
+use noise::buffers::Buffers;
+use noise::excitation::{Counts, Knobs, Rendered};
 use utils::filter::{FrequencyApproximation, Svf};
 use waveguide::string::{Block, Live, String};
 
@@ -17,14 +19,6 @@ pub struct StringVoice {
     pub excitation_filter: Svf,
     pub string: String,
     pub remaining_noise_samples: usize,
-}
-
-// A voice after a render or a half of one, the generator's word, and the words drawn.
-#[derive(Clone, Copy)]
-pub struct Rendered {
-    pub voice: StringVoice,
-    pub word: u32,
-    pub counts: Counts,
 }
 
 // The excitation filter and the string after a block, the generator's word, and how many words the string drew.
@@ -93,30 +87,27 @@ fn counts_of(sustain: bool, left: usize, n: usize) -> Counts
 
 // Both halves' loops as one, by the frame's index, since each frame stands in four buffers. The excitation filter is a frame ahead of the string, so that
 // neither waits for the other.
-fn sound_frames(
-    lines: &mut [f32],
-    v: Live,
-    block: Block,
-    f: Svf,
-    temp: &[f32],
-    temp_2: &mut [f32],
-    out: &mut [f32],
-    aux: &mut [f32],
-) -> Strung
-    requires { Good (v.string, lines.old) × (length out.old ≤ 2 ^ 24) × Alike temp.now temp_2.old out.old aux.old }
-    ensures { run (frames_of block.shape block.params f (v.string, lines.old) temp.now temp_2.old out.old aux.old) v.word ≡ record {
+fn sound_frames(lines: &mut [f32], v: Live, block: Block, f: Svf, b: &mut Buffers) -> Strung
+    requires { Good (v.string, lines.old) × (length b.old.out.now ≤ 2 ^ 24) × IsAlike b.old }
+    ensures all { run (frames_of block.shape block.params f (v.string, lines.old) b.old.temp.now b.old.temp_2.now b.old.out.now b.old.aux.now) v.word ≡ record {
       value = record {
         filter = result.filter;
         string = result.string;
         lines = lines.new;
-        temp2 = temp_2.new;
-        out = out.new;
-        aux = aux.new;
+        temp2 = b.new.temp_2.now;
+        out = b.new.out.now;
+        aux = b.new.aux.now;
         drawn = result.drawn;
       };
       word = result.word;
     } }
+    ensures temp { b.new.temp.now ≡ b.old.temp.now }
+    ensures same { IsSame b.new b.old }
 {
+    let temp = &mut *b.temp;
+    let temp_2 = &mut *b.temp_2;
+    let out = &mut *b.out;
+    let aux = &mut *b.aux;
     let mut u = block.begin(v);
     let mut ahead = Passed::first(f, temp);
     for i in 0..temp.len() {
@@ -204,7 +195,7 @@ impl StringVoice {
         temp_2: &mut [f32],
         aux: &mut [f32],
         word: u32,
-    ) -> Rendered
+    ) -> Rendered<StringVoice>
         ensures { run (excite_of k self temp.old temp_2.old aux.old) word ≡ record {
           value = record { voice = result.voice; temp = temp.new; temp2 = temp_2.new; aux = aux.new; counts = result.counts };
           word = result.word;
@@ -237,7 +228,7 @@ impl StringVoice {
         temp_2: &[f32],
         out: &mut [f32],
         word: u32,
-    ) -> Rendered
+    ) -> Rendered<StringVoice>
         requires { Good (self.string, lines.old) × (length out.old ≤ 2 ^ 24) }
         ensures { run (sound_of k self lines.old temp_2.now out.old) word ≡ record {
           value = record { voice = result.voice; lines = lines.new; out = out.new; counts = result.counts };
@@ -275,42 +266,40 @@ impl StringVoice {
         self,
         k: Knobs,
         lines: &mut [f32],
-        temp: &mut [f32],
-        temp_2: &mut [f32],
-        out: &mut [f32],
-        aux: &mut [f32],
+        b: &mut Buffers,
         word: u32,
-    ) -> Rendered
-        requires { Good (self.string, lines.old) × (length out.old ≤ 2 ^ 24) × Alike temp.old temp_2.old out.old aux.old }
-        ensures { run (render_of k self lines.old temp.old temp_2.old out.old aux.old) word ≡ record {
+    ) -> Rendered<StringVoice>
+        requires { Good (self.string, lines.old) × (length b.old.out.now ≤ 2 ^ 24) × IsAlike b.old }
+        ensures all { run (render_of k self lines.old b.old.temp.now b.old.temp_2.now b.old.out.now b.old.aux.now) word ≡ record {
           value = record {
             voice = result.voice;
             lines = lines.new;
-            temp = temp.new;
-            temp2 = temp_2.new;
-            out = out.new;
-            aux = aux.new;
+            temp = b.new.temp.now;
+            temp2 = b.new.temp_2.now;
+            out = b.new.out.now;
+            aux = b.new.aux.now;
             counts = result.counts;
           };
           word = result.word;
         } }
+        ensures same { IsSame b.new b.old }
     {
         let struck = self.strike(k);
         let left = struck.remaining_noise_samples;
-        let left_after = noise_left(k.sustain, left, temp.len());
-        let e = counts_of(k.sustain, left, temp.len());
-        let excited = fill_excitation(k, left, temp, word);
+        let left_after = noise_left(k.sustain, left, b.temp.len());
+        let e = counts_of(k.sustain, left, b.temp.len());
+        let excited = fill_excitation(k, left, b.temp, word);
         let amount = amount_for(k.structure);
         let shape = waveguide::string::non_linearity(amount);
         let bright = noise::excitation::raise(k.accent, k.brightness);
         let damped = noise::excitation::raise(k.accent, k.damping);
-        let b = waveguide::string::prepare(struck.string, shape, k.f0, bright, damped, out.len());
+        let p = waveguide::string::prepare(struck.string, shape, k.f0, bright, damped, b.out.len());
         let live = Live {
-            string: b.string,
+            string: p.string,
             word: excited,
         };
         let filter = struck.excitation_filter;
-        let s = sound_frames(lines, live, b.block, filter, temp, temp_2, out, aux);
+        let s = sound_frames(lines, live, p.block, filter, b);
         let voice = StringVoice {
             excitation_filter: s.filter,
             string: s.string,

@@ -25,7 +25,7 @@ loop-i-init c =
     let q = c.requires.2 in
     let e = c.begin-u.ensures in
     let h = c.first-ahead.ensures in (
-      lead_begin (ahead_step filter_of has_same_memory a.f a.temp.now 0 h.0) (ahead_end filter_of has_same_memory a.f a.temp.now 0 h.0),
+      lead_begin (ahead_step filter_of has_same_memory a.f a.b.now.temp.now 0 h.0) (ahead_end filter_of has_same_memory a.f a.b.now.temp.now 0 h.0),
       frames_begin,
       frames_begin,
       begun_ahead a.block.params a.v _ e,
@@ -36,7 +36,7 @@ loop-i-init c =
         temp2_size = q.temp2_is;
         out_size = q.out_is;
         aux_size = q.aux_is;
-        filtered_size = length_scan svf_step a.f a.temp.now a.temp_2.now ∙ q.temp2_is;
+        filtered_size = length_scan svf_step a.f a.b.now.temp.now a.b.now.temp_2.now ∙ q.temp2_is;
         few = omega (arith, q.out_is, c.requires.1);
       },
     )
@@ -58,34 +58,34 @@ loop-i-preserved c =
     let l = c.loop-i in
     let v = l.invariant in
     let z = v.6 in
-    let xs = (svf_buffer a.f a.temp.now a.temp_2.now).1 in
-    let lt : l.i < length a.temp.now = omega (arith, z.all, c.loop-i-test) in
-    let within : l.i < min (length a.temp.now) (length a.temp_2.now) = omega (arith, z, lt) in
+    let xs = (svf_buffer a.f a.b.now.temp.now a.b.now.temp_2.now).1 in
+    let lt : l.i < length a.b.now.temp.now = omega (arith, z.all, c.loop-i-test) in
+    let within : l.i < min (length a.b.now.temp.now) (length a.b.now.temp_2.now) = omega (arith, z, lt) in
     let x = lead_puts nan v.0 within in
     let q = c.on-ahead.ensures in
     let m = c.advance-u.ensures in
     let good = begun_good a.block.params a.v _ b.ensures a.lines.now c.requires.0 in (
-      lead_turn nan v.0 within (ahead_step filter_of has_same_memory l.ahead.filter a.temp.now (l.i + 1) q.0) (ahead_end filter_of has_same_memory l.ahead.filter a.temp.now (l.i + 1) q.0),
+      lead_turn nan v.0 within (ahead_step filter_of has_same_memory l.ahead.filter a.b.now.temp.now (l.i + 1) q.0) (ahead_end filter_of has_same_memory l.ahead.filter a.b.now.temp.now (l.i + 1) q.0),
       scan_turn nan nan v.1 (omega (arith, z, lt)) (ap (λ (x : Float). (tt, get_or l.aux l.i nan ⊕ x)) x),
       frames_turn nan nan v.2 (omega (arith, z, lt)) (rw (← x, c.mix.ensures) (run_then (moved a.block.shape a.block.params _ (l.u.string, l.lines)) _ l.u.word m.0)),
       m.1,
-      words_turn a.block.shape a.block.params (b.result.string, a.lines.now) xs a.out.now b.result.word good l.i l.u.drawn _ v.2 (omega (arith, z, lt)) v.4 m.2,
+      words_turn a.block.shape a.block.params (b.result.string, a.lines.now) xs a.b.now.out.now b.result.word good l.i l.u.drawn _ v.2 (omega (arith, z, lt)) v.4 m.2,
       q.1,
       z,
     )
 
-pub returns : goal.returns
-returns c =
+pub returns-clause-all : goal.returns-clause-all
+returns-clause-all c =
     let a = c.args in
     let b = c.begin-u in
     let l = c.loop-i in
     let v = l.invariant in
     let z = v.6 in
-    let xs = (svf_buffer a.f a.temp.now a.temp_2.now).1 in
+    let xs = (svf_buffer a.f a.b.now.temp.now a.b.now.temp_2.now).1 in
     let good = begun_good a.block.params a.v _ b.ensures a.lines.now c.requires.0 in
-    let past : length a.temp.now ≤ l.i = omega (arith, z.all, c.loop-i-test) in
-    all_frames a.block.shape a.block.params a.f (a.v.string, a.lines.now) a.temp.now a.temp_2.now a.out.now a.aux.now a.v.word
+    let past : length a.b.now.temp.now ≤ l.i = omega (arith, z.all, c.loop-i-test) in
+    all_frames a.block.shape a.block.params a.f (a.v.string, a.lines.now) a.b.now.temp.now a.b.now.temp_2.now a.b.now.out.now a.b.now.aux.now a.v.word
     (lead_end v.0 past)
     (ap (λ (q : Unit {0} × List Float). q.1) (scan_end v.1 (omega (arith, z, c.loop-i-test))))
-    (begun_run a.block.params a.v b.result b.ensures (λ (t : String). counted (frames (frame_of a.block.shape a.block.params) (t, a.lines.now) xs a.out.now))
-    (words_end a.block.shape a.block.params (b.result.string, a.lines.now) xs a.out.now b.result.word good l.i l.u.drawn v.2 (omega (arith, z, c.loop-i-test)) v.4))
+    (begun_run a.block.params a.v b.result b.ensures (λ (t : String). counted (frames (frame_of a.block.shape a.block.params) (t, a.lines.now) xs a.b.now.out.now))
+    (words_end a.block.shape a.block.params (b.result.string, a.lines.now) xs a.b.now.out.now b.result.word good l.i l.u.drawn v.2 (omega (arith, z, c.loop-i-test)) v.4))

@@ -11,14 +11,14 @@ sound_frames-s-requires c =
     let a = c.args in
     let q = c.requires.2 in
     let v = c.strike-struck in (
-      prepared_good c.non_linearity-shape.result a.k.f0 c.raise-bright.result c.raise-damped.result (length a.out.now) v.result.string a.lines.now _ c.prepare-b.ensures
+      prepared_good c.non_linearity-shape.result a.k.f0 c.raise-bright.result c.raise-damped.result (length a.b.now.out.now) v.result.string a.lines.now _ c.prepare-p.ensures
           (struck_good a.k a.self v.result a.lines.now v.ensures c.requires.0),
       c.requires.1,
       record { temp2_is = omega (arith, q.temp2_is); out_is = omega (arith, q.out_is); aux_is = omega (arith, q.aux_is) },
     )
 
-pub returns : goal.returns
-returns c =
+pub returns-clause-all : goal.returns-clause-all
+returns-clause-all c =
     let a = c.args in
     let v = c.strike-struck in
-    together a.k a.self v.result a.lines.now a.temp.now a.temp_2.now a.out.now a.aux.now a.word v.ensures c.noise_left-left_after.ensures c.counts_of-e.ensures c.fill_excitation-excited.ensures c.amount_for-amount.ensures c.non_linearity-shape.ensures c.raise-bright.ensures c.raise-damped.ensures c.prepare-b.ensures c.sound_frames-s.ensures
+    rw c.sound_frames-s.ensures.temp (together a.k a.self v.result a.lines.now a.b.now.temp.now a.b.now.temp_2.now a.b.now.out.now a.b.now.aux.now a.word v.ensures c.noise_left-left_after.ensures c.counts_of-e.ensures c.fill_excitation-excited.ensures c.amount_for-amount.ensures c.non_linearity-shape.ensures c.raise-bright.ensures c.raise-damped.ensures c.prepare-p.ensures c.sound_frames-s.ensures.all)
