@@ -1,12 +1,11 @@
 -- Laws on plain numbers: what `compare` gives, and a word's digits from its leading zeros. Assumes nothing.
 use Rattle.std.proofs.Common.{◌≡◌, ℕ, zero, suc, ◌+◌, ◌-◌, ◌*◌, ◌/◌, ◌%◌, ◌^◌, ◌<◌, ◌≤◌, T, pos, le→leb, sym, ap, ◌∙◌, subst, le_trans, le_of_eq, le_refl, lt_of_lt_of_le, le_of_suc-le-suc, not-suc-le-zero, mod-eq_of_lt, zero-lt-suc, mul_assoc, mul-lt-mul_of_pos_right, pow-suc, lt_of_not-le, sub-add_cancel, not-le_of_lt, arith, pow_pos, pow_mono, pow-add}
-use Rattle.std.proofs.Math.Nat.{div-eq_of_eq-mul_right}
 use Prim.Native.Nat.compare
 use Prim.Native.Nat.{Ordering}
 use Prim.Native.Nat.{compare}
 use native.Mathlib.Decide.{dec_lt}
 use lib.Count.{count_leading_zeros, leading_unique}
-use lib.Ieee.{binary32, size, nearest, in_float}
+use lib.Ieee.{Float, binary32, of_int, size, nearest, in_float}
 use lib.Ieee.Digits.{size-lt, size-le, size_reaches}
 use lib.Ieee.Fits.{nearest-le, kept-lt}
 use lib.Ieee.Nearest.{closest, closest_same}
@@ -106,8 +105,8 @@ shifted w z s few room e =
     ∙ mul_assoc w (2 ^ z) (2 ^ (8 - z))
     ∙ ap (λ (x : ℕ). w * x) (sym (pow-add 2 z (8 - z)) ∙ ap (λ (x : ℕ). 2 ^ x) k))
 
--- 256 halved z times
-pub halved : (z : ℕ) → z < 8 → 256 / 2 ^ z ≡ 2 ^ (8 - z)
-halved z h =
-    let e : z + (8 - z) ≡ 8 = omega arith in
-    div-eq_of_eq-mul_right (pow_pos z) (ap (λ (n : ℕ). 2 ^ n) (sym e) ∙ pow-add 2 z (8 - z))
+-- ---- the arms of the unit: zeros z are k
+pub unit_arm : (z k : ℕ) (x : Float) → z < 8 → z % 8 ≡ k → x ≡ of_int binary32 (pos (2 ^ (8 - k))) → x ≡ of_int binary32 (pos (2 ^ (8 - z)))
+unit_arm z k x h e f =
+    let g : k ≡ z = omega arith in
+    f ∙ ap (λ (j : ℕ). of_int binary32 (pos (2 ^ (8 - j)))) g
