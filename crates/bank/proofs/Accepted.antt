@@ -8,21 +8,22 @@ use lib.Dec.{eqb, leb, ltb}
 use lib.ListN.{length, get_or}
 use lib.Ieee.{Float}
 use borrow.Author.Tests.{eqb-true, eqb-false, ltb-false, leb-false, not-false}
+use Rattle.std.specs.Prelude.{Result, Ok}
 use Rattle.ground.proofs.Bools.{or_false, and_true}
 use Rattle.noise.specs.declared.excitation.Knobs.{Knobs}
 use Rattle.noise.specs.Excitation.{Alike}
 use Rattle.slots.specs.declared.answers.Reason.{Reason}
 use Rattle.slots.specs.declared.answers.Reason.TheVariants as R
-use Rattle.slots.specs.declared.answers.Verdict.TheVariants.{Accepted}
 use Rattle.slots.specs.declared.slots.Slot.{Slot}
 use Rattle.slots.specs.declared.slots.Bank.{Bank}
 use Rattle.slots.specs.Slots.{no_string, empty_slot, slot_at}
 use Rattle.slots.specs.Calls.{Bufs, Act, opening, render}
-use Rattle.slots.specs.Table.{Check, ◌⇐◌, first, alike, checks, knob_checks, verdict, bad_slot, bad_slots, bad}
+use Rattle.slots.specs.Table.{Call, Check, ◌⇐◌, first, alike, checks, knob_checks, verdict, bad_slot, bad_slots, bad}
 use Rattle.bank.specs.World.{Ready}
+use Rattle.bank.proofs.Moves.{decided}
 
 -- a check of a call that is accepted does not apply
-pub spared : (r : Reason) (b : Bool) (cs : List Check) → first (r ⇐ b ∷ cs) ≡ Accepted → (b ≡ false) × (first cs ≡ Accepted)
+pub spared : (r : Reason) (b : Bool) (cs : List Check) → first (r ⇐ b ∷ cs) ≡ Ok tt → (b ≡ false) × (first cs ≡ Ok tt)
 unfolding first
 spared r true cs e = let z : ◌≡◌ {A = ℕ} 0 1 = cc in absurd (omega arith)
 spared r false cs e = (refl, e)
@@ -79,9 +80,9 @@ whole b mem slot e =
 pub record Begun (bad : Bool) (slot kind : ℕ) (act : Act) : Type 0 where
   pub good : bad ≡ false
   pub slot_within : slot < 8
-  pub rest : first (checks kind act) ≡ Accepted
+  pub rest : first (checks kind act) ≡ Ok tt
 
-pub begun : (bad : Bool) (slot kind : ℕ) (act : Act) → verdict bad kind (record { slot = slot; act = act }) ≡ Accepted → Begun bad slot kind act
+pub begun : (bad : Bool) (slot kind : ℕ) (act : Act) → verdict bad kind (record { slot = slot; act = act }) ≡ Ok tt → Begun bad slot kind act
 unfolding verdict
 begun bad slot kind act e =
     let p = spared R.Memory bad (R.NoSlot ⇐ ltb 7 slot ∷ checks kind act) e in
@@ -89,19 +90,33 @@ begun bad slot kind act e =
     let h = ltb-false 7 slot q.0 in
     record { good = p.0; slot_within = omega arith; rest = q.1 }
 
+-- what an accepted call has passed, where the code read the table's word off its bank
+pub record Taken (b : Bank) (mem : List Float) (c : Call) : Type 0 where
+  pub word : verdict (bad b mem) (slot_at b c.slot).kind c ≡ Ok tt
+  pub slot_within : c.slot < 8
+  pub whole : Whole b mem c.slot
+  pub rest : first (checks (slot_at b c.slot).kind c.act) ≡ Ok tt
+
+pub taken : (b : Bank) (mem : List Float) (c : Call) {d : Bool} {n : ℕ} {r : Result (Unit {0}) Reason} → r ≡ verdict d n c → d ≡ bad b mem → n ≡ (slot_at b c.slot).kind → r ≡ Ok tt
+    → Taken b mem c
+taken b mem c e eb en ev =
+    let w = decided c e eb en ev in
+    let g = begun (bad b mem) c.slot (slot_at b c.slot).kind c.act w in
+    record { word = w; slot_within = g.slot_within; whole = whole b mem c.slot g.good; rest = g.rest }
+
 -- a kind that may be opened is not 0
-pub asked : (kind k : ℕ) (rate : Float) → first (checks kind (opening k rate)) ≡ Accepted → 0 < k
+pub asked : (kind k : ℕ) (rate : Float) → first (checks kind (opening k rate)) ≡ Ok tt → 0 < k
 unfolding checks
 asked kind zero rate e = absurd (true≢false (spared R.Kind true _ e).0)
 asked kind (suc k) rate e = omega arith
 
 -- what the checks of a render leave: its slot is not empty, and its buffers have one length, of at most 4,096
-module _ (kind : ℕ) (k : Knobs) (u : Bufs) (e : first (checks kind (render k u)) ≡ Accepted) where
-  not_empty : (eqb kind 0 ≡ false) × (first (R.Lengths ⇐ not (alike u) ∷ R.TooLong ⇐ ltb 4096 (length u.temp) ∷ knob_checks k) ≡ Accepted)
+module _ (kind : ℕ) (k : Knobs) (u : Bufs) (e : first (checks kind (render k u)) ≡ Ok tt) where
+  not_empty : (eqb kind 0 ≡ false) × (first (R.Lengths ⇐ not (alike u) ∷ R.TooLong ⇐ ltb 4096 (length u.temp) ∷ knob_checks k) ≡ Ok tt)
   unfolding checks
   not_empty = spared R.Empty (eqb kind 0) (R.Lengths ⇐ not (alike u) ∷ R.TooLong ⇐ ltb 4096 (length u.temp) ∷ knob_checks k) e
 
-  alike_checked : (not (alike u) ≡ false) × (first (R.TooLong ⇐ ltb 4096 (length u.temp) ∷ knob_checks k) ≡ Accepted)
+  alike_checked : (not (alike u) ≡ false) × (first (R.TooLong ⇐ ltb 4096 (length u.temp) ∷ knob_checks k) ≡ Ok tt)
   alike_checked = spared R.Lengths (not (alike u)) (R.TooLong ⇐ ltb 4096 (length u.temp) ∷ knob_checks k) not_empty.1
 
   pub alike_lent : Alike u.temp u.temp2 u.out u.aux

@@ -6,6 +6,7 @@ use Prim.Native.Nat.{ℕ, ◌+◌, ◌-◌, ◌*◌}
 use native.Mathlib.Omega.{arith}
 use lib.ListN.{take, drop, take-append-drop}
 use lib.Ieee.{Float}
+use Rattle.std.specs.Prelude.{Result, Ok, Err}
 use Rattle.ground.specs.Draw.{Ran, run}
 use Rattle.ground.specs.Part.{part, put}
 use Rattle.ground.proofs.Draw.{run_then}
@@ -15,11 +16,7 @@ use Rattle.string_voice.specs.declared.string_voice.StringVoice.{StringVoice}
 use Rattle.string_voice.specs.StringVoice as string
 use Rattle.modal_voice.specs.declared.modal_voice.ModalVoice.{ModalVoice}
 use Rattle.modal_voice.specs.ModalVoice as modal
-use Rattle.slots.specs.declared.answers.Verdict.{Verdict}
-use Rattle.slots.specs.declared.answers.Verdict.TheVariants.{Accepted, Refused}
 use Rattle.slots.specs.declared.answers.Reason.{Reason}
-use Rattle.slots.specs.declared.answers.Answer.TheVariants.{Drawn, Refusal}
-use Rattle.bank.specs.declared.calls.Opened.{Opened}
 use Rattle.slots.specs.declared.slots.Slot.{Slot}
 use Rattle.slots.specs.declared.slots.Bank.{Bank}
 use Rattle.slots.specs.Answers.{no_counts}
@@ -31,39 +28,33 @@ use Rattle.bank.specs.World.{World, lines_at, with_lines, Left, left_of, Moved, 
 -- ---- by the table's word
 
 -- the table's word on what the code read of the bank
-pub decided : {b b' : Bool} {n n' : ℕ} {r v : Verdict} (c : Call) → r ≡ verdict b n c → b ≡ b' → n ≡ n' → r ≡ v → verdict b' n' c ≡ v
+pub decided : {b b' : Bool} {n n' : ℕ} {r v : Result (Unit {0}) Reason} (c : Call) → r ≡ verdict b n c → b ≡ b' → n ≡ n' → r ≡ v → verdict b' n' c ≡ v
 decided {b} {b'} {n} {n'} c e eb en ev = ap (λ (x : Bool). verdict x n' c) (sym eb) ∙ ap (λ (x : ℕ). verdict b x c) (sym en) ∙ sym e ∙ ev
 
 module _ (w : World) (c : Call) where
-  pub refused_left : (x : Reason) → verdict (bad w.bank w.mem) (slot_at w.bank c.slot).kind c ≡ Refused x
-      → left_of (call_def w c) ≡ record { answer = Refusal x; after = w; bufs = lent c.act }
+  pub refused_left : (x : Reason) → verdict (bad w.bank w.mem) (slot_at w.bank c.slot).kind c ≡ Err x
+      → left_of (call_def w c) ≡ record { answer = Err x; after = w; bufs = lent c.act }
   unfolding call_def call_by
-  refused_left x e = ap (λ (v : Verdict). left_of (call_by v w c)) e
+  refused_left x e = ap (λ (v : Result (Unit {0}) Reason). left_of (call_by v w c)) e
 
   -- what an accepted call leaves, by what it makes of its slot
   abbrev left_by : Moved → Left
   left_by m =
       record {
-        answer = Drawn m.counts;
+        answer = Ok m.counts;
         after = record { bank = with_slot w.bank c.slot m.slot; word = m.word; mem = m.mem };
         bufs = m.bufs;
       }
 
-  pub accepted_left : (x : Slot) (b' : Bank) (m : Moved) → verdict (bad w.bank w.mem) (slot_at w.bank c.slot).kind c ≡ Accepted
+  pub accepted_left : (x : Slot) (b' : Bank) (m : Moved) → verdict (bad w.bank w.mem) (slot_at w.bank c.slot).kind c ≡ Ok tt
       → x ≡ slot_at w.bank c.slot → moved_by c.act c.slot x w.word w.mem ≡ m → b' ≡ with_slot w.bank c.slot m.slot
-      → left_of (call_def w c) ≡ record { answer = Drawn m.counts; after = record { bank = b'; word = m.word; mem = m.mem }; bufs = m.bufs }
+      → left_of (call_def w c) ≡ record { answer = Ok m.counts; after = record { bank = b'; word = m.word; mem = m.mem }; bufs = m.bufs }
   unfolding call_def call_by moved_by
   accepted_left x b' m e ex em eb =
-      ap (λ (v : Verdict). left_of (call_by v w c)) e
+      ap (λ (v : Result (Unit {0}) Reason). left_of (call_by v w c)) e
       ∙ ap (λ (y : Slot). left_by (moved_by c.act c.slot y w.word w.mem)) (sym ex)
       ∙ ap left_by em
-      ∙ λ i. record { answer = Drawn m.counts; after = record { bank = sym eb i; word = m.word; mem = m.mem }; bufs = m.bufs }
-
--- what an opening or a reset gives back
-pub given_back : {l : Left} {o : Opened} {b : Bank} {w : ℕ} {mem : List Float} {u : Bufs}
-    → l ≡ record { answer = Drawn no_counts; after = record { bank = b; word = w; mem = mem }; bufs = u } → o ≡ record { bank = b; answer = Drawn no_counts }
-    → l ≡ record { answer = o.answer; after = record { bank = o.bank; word = w; mem = mem }; bufs = u }
-given_back {w = w} {mem} {u} e eo = e ∙ λ i. record { answer = (sym eo i).answer; after = record { bank = (sym eo i).bank; word = w; mem = mem }; bufs = u }
+      ∙ λ i. record { answer = Ok m.counts; after = record { bank = sym eb i; word = m.word; mem = m.mem }; bufs = m.bufs }
 
 -- ---- a slot's part of line memory: j is the code's end less its start
 

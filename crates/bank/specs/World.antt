@@ -1,16 +1,13 @@
 -- The bank, the generator's word and line memory: what a call makes of them, and a list of calls. Assumes nothing.
-use Rattle.std.specs.Prelude.{List, [], ◌∷◌, ◌≡◌, ℕ, ◌*◌, ◌<◌, ◌≤◌, length, Float}
+use Rattle.std.specs.Prelude.{List, [], ◌∷◌, ◌≡◌, ℕ, ◌*◌, ◌<◌, ◌≤◌, length, Float, Result, Ok, Err}
 use Rattle.ground.specs.Draw.{value, ending, words}
 use Rattle.ground.specs.Part.{part, put}
 use Rattle.string_voice.specs.declared.string_voice.StringVoice.{StringVoice}
 use Rattle.slots.specs.declared.slots.Slot.{Slot}
 use Rattle.slots.specs.declared.slots.Bank.{Bank}
-use Rattle.slots.specs.declared.answers.Verdict.{Verdict}
-use Rattle.slots.specs.declared.answers.Verdict.TheVariants.{Accepted, Refused}
-use Rattle.slots.specs.declared.answers.Answer.{Answer}
-use Rattle.slots.specs.declared.answers.Answer.TheVariants.{Drawn, Refusal}
 use Rattle.slots.specs.Slots.{fresh, slot_at, with_slot}
 use Rattle.noise.specs.declared.excitation.Counts.{Counts}
+use Rattle.slots.specs.declared.answers.Reason.{Reason}
 use Rattle.slots.specs.Calls.{Act, Bufs, lent, Voice, act_def}
 use Rattle.slots.specs.Table.{Call, bad, verdict}
 
@@ -38,13 +35,13 @@ pub record Event : Type 0 where
   pub call : Call
   pub before : World
   pub after : World
-  pub answer : Answer
+  pub answer : Result Counts Reason
   pub bufs : Bufs
   pub dealt : List ℕ
 
 -- accepted, the slot's voice moves by its definition, run by the generator; refused, nothing does
-unfoldable pub call_by : Verdict → World → Call → Event
-call_by Accepted w c =
+unfoldable pub call_by : Result (Unit {0}) Reason → World → Call → Event
+call_by (Ok u) w c =
     let m = act_def c.act (voice_at c.slot w) in
     let d = value m w.word in
     record {
@@ -55,11 +52,11 @@ call_by Accepted w c =
         word = ending m w.word;
         mem = with_lines c.slot d.voice.lines w.mem;
       };
-      answer = Drawn d.counts;
+      answer = Ok d.counts;
       bufs = d.bufs;
       dealt = words m w.word;
     }
-call_by (Refused r) w c = record { call = c; before = w; after = w; answer = Refusal r; bufs = lent c.act; dealt = [] }
+call_by (Err r) w c = record { call = c; before = w; after = w; answer = Err r; bufs = lent c.act; dealt = [] }
 
 -- a call of the bank, by the table
 unfoldable pub call_def : World → Call → Event
@@ -76,7 +73,7 @@ end_from w (c ∷ cs) = end_from (call_def w c).after cs
 
 -- what a call leaves to its caller: the answer, the world after it, and the buffers
 pub record Left : Type 0 where
-  pub answer : Answer
+  pub answer : Result Counts Reason
   pub after : World
   pub bufs : Bufs
 

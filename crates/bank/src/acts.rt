@@ -7,8 +7,11 @@ ghost use Rattle.noise.specs.Excitation.{Alike};
 ghost use Rattle.bank.specs.World.{moved_by, Ready, ReadyString};
 
 use noise::excitation::{Counts, Knobs};
-use slots::slots::Slot;
+use slots::slots::{Kind, Slot};
 use string_voice::string_voice::{Rendered, StringVoice};
+
+// The line memory of a slot.
+const LINES: usize = 1280;
 
 // A slot after a render, the generator's word, and the words drawn.
 #[derive(Clone, Copy)]
@@ -24,9 +27,11 @@ pub fn open(lines: &mut [f32], slot: usize, kind: u32, sample_rate_hz: f32) -> S
     ensures { (x : Slot) (w : ℕ) → moved_by (opening kind sample_rate_hz) slot x w lines.old
         ≡ record { slot = result; word = w; mem = lines.new; bufs = lent (opening kind sample_rate_hz); counts = no_counts } }
 {
-    let base = 1280 * slot;
-    let end = base + 1280;
-    slots::slots::opened(kind, sample_rate_hz, &mut lines[base..end])
+    slots::slots::opened(
+        kind,
+        sample_rate_hz,
+        &mut lines[LINES * slot..LINES * slot + LINES],
+    )
 }
 
 // A reset of a string's voice.
@@ -35,9 +40,7 @@ pub fn reset_string(voice: StringVoice, lines: &mut [f32], slot: usize) -> Strin
     ensures { (x : Slot) (w : ℕ) → x.string ≡ voice → moved_by reset slot x w lines.old
         ≡ record { slot = with_string x result; word = w; mem = lines.new; bufs = lent reset; counts = no_counts } }
 {
-    let start = 1280 * slot;
-    let stop = start + 1280;
-    voice.reset(&mut lines[start..stop])
+    voice.reset(&mut lines[LINES * slot..LINES * slot + LINES])
 }
 
 // A reset of a string.
@@ -46,16 +49,14 @@ pub fn reset(x: Slot, lines: &mut [f32], slot: usize) -> Slot
     ensures { (w : ℕ) → moved_by reset slot x w lines.old
         ≡ record { slot = result; word = w; mem = lines.new; bufs = lent reset; counts = no_counts } }
 {
-    let string = reset_string(x.string, lines, slot);
-    let modal = x.modal;
     Slot {
-        kind: x.kind,
-        string,
-        modal,
+        string: reset_string(x.string, lines, slot),
+        ..x
     }
 }
 
 // A render of a string's voice.
+#[tactic(auto, using(crate::proofs::Places::good_part))]
 pub fn render_string(
     voice: StringVoice,
     lines: &mut [f32],
@@ -76,9 +77,8 @@ pub fn render_string(
       counts = result.counts;
     } }
 {
-    let from = 1280 * slot;
-    let to = from + 1280;
-    voice.render(k, &mut lines[from..to], temp, temp_2, out, aux, word)
+    let part = &mut lines[LINES * slot..LINES * slot + LINES];
+    voice.render(k, part, temp, temp_2, out, aux, word)
 }
 
 // A render of a modal voice, which has no lines; `around` subnormal products or not.
@@ -102,24 +102,19 @@ pub fn render_modal(
       counts = result.counts;
     } }
 {
-    let voice = x.modal;
-    let m = voice.render(around, k, temp, temp_2, out, aux, word);
-    let string = x.string;
-    let modal = m.voice;
-    let after = Slot {
-        kind: x.kind,
-        string,
-        modal,
-    };
-    let counts = m.counts;
+    let m = x.modal.render(around, k, temp, temp_2, out, aux, word);
     Acted {
-        slot: after,
+        slot: Slot {
+            modal: m.voice,
+            ..x
+        },
         word: m.word,
-        counts,
+        counts: m.counts,
     }
 }
 
 // A render, by the slot's kind.
+#[tactic(auto, using(crate::proofs::Places::kind_modal))]
 pub fn render(
     around: bool,
     x: Slot,
@@ -141,21 +136,16 @@ pub fn render(
       counts = result.counts;
     } }
 {
-    if x.kind != 1 {
+    if x.kind != Kind::String as u32 {
         return render_modal(around, x, word, slot, k, temp, temp_2, out, aux);
     }
     let s = render_string(x.string, lines, word, slot, k, temp, temp_2, out, aux);
-    let string = s.voice;
-    let modal = x.modal;
-    let after = Slot {
-        kind: x.kind,
-        string,
-        modal,
-    };
-    let counts = s.counts;
     Acted {
-        slot: after,
+        slot: Slot {
+            string: s.voice,
+            ..x
+        },
         word: s.word,
-        counts,
+        counts: s.counts,
     }
 }

@@ -1,12 +1,10 @@
 // The calls of the bank: any bank, any lengths, any numbers.
 ghost use Rattle.std.specs.Prelude.{◌≡◌, ℕ};
-ghost use Rattle.slots.specs.declared.answers.Answer.TheVariants.{Drawn};
-ghost use Rattle.slots.specs.Answers.{no_counts};
 ghost use Rattle.slots.specs.Calls.{opening, reset, render, lent};
 ghost use Rattle.bank.specs.World.{left_of, call_def};
 
-use noise::excitation::{Counts, Knobs};
-use slots::answers::{Answer, Verdict};
+use noise::excitation::Knobs;
+use slots::answers::{Answer, NO_COUNTS};
 use slots::slots::Bank;
 
 // The bank after an opening or a reset, and the answer.
@@ -24,37 +22,23 @@ pub struct Rendered {
     pub answer: Answer,
 }
 
-// The answer of an accepted opening or reset, which draws nothing.
-fn drawn_none(bank: Bank) -> Opened
-    ensures { result ≡ record { bank = bank; answer = Drawn no_counts } }
-{
-    let counts = Counts {
-        burst: 0,
-        dust: 0,
-        dispersion: 0,
-    };
-    Opened {
-        bank,
-        answer: Answer::Drawn(counts),
-    }
-}
-
 // A slot is opened with a voice of the kind, and its lines are cleared.
 pub fn open(bank: Bank, lines: &mut [f32], slot: usize, kind: u32, sample_rate_hz: f32) -> Opened
     ensures { (w : ℕ) → left_of (call_def (record { bank = bank; word = w; mem = lines.old }) (record { slot = slot; act = opening kind sample_rate_hz }))
         ≡ record { answer = result.answer; after = record { bank = result.bank; word = w; mem = lines.new }; bufs = lent (opening kind sample_rate_hz) } }
 {
     let bad = slots::table::bad(bank, lines);
-    let verdict = slots::table::check_open(bad, slot, kind, sample_rate_hz);
-    match verdict {
-        Verdict::Refused(reason) => Opened {
+    match slots::table::check_open(bad, slot, kind, sample_rate_hz) {
+        Err(reason) => Opened {
             bank,
-            answer: Answer::Refusal(reason),
+            answer: Err(reason),
         },
-        Verdict::Accepted => {
+        Ok(()) => {
             let x = crate::acts::open(lines, slot, kind, sample_rate_hz);
-            let after = slots::slots::with_slot(bank, slot, x);
-            drawn_none(after)
+            Opened {
+                bank: slots::slots::with_slot(bank, slot, x),
+                answer: Ok(NO_COUNTS),
+            }
         }
     }
 }
@@ -66,17 +50,18 @@ pub fn reset(bank: Bank, lines: &mut [f32], slot: usize) -> Opened
 {
     let bad = slots::table::bad(bank, lines);
     let held = slots::slots::kind_at(bank, slot);
-    let verdict = slots::table::check_reset(bad, slot, held);
-    match verdict {
-        Verdict::Refused(reason) => Opened {
+    match slots::table::check_reset(bad, slot, held) {
+        Err(reason) => Opened {
             bank,
-            answer: Answer::Refusal(reason),
+            answer: Err(reason),
         },
-        Verdict::Accepted => {
+        Ok(()) => {
             let x = slots::slots::slot_at(bank, slot);
             let y = crate::acts::reset(x, lines, slot);
-            let after = slots::slots::with_slot(bank, slot, y);
-            drawn_none(after)
+            Opened {
+                bank: slots::slots::with_slot(bank, slot, y),
+                answer: Ok(NO_COUNTS),
+            }
         }
     }
 }
@@ -104,23 +89,20 @@ pub fn render(
 {
     let bad = slots::table::bad(bank, lines);
     let held = slots::slots::kind_at(bank, slot);
-    let verdict = slots::table::check_render(bad, slot, held, k, temp, temp_2, out, aux);
-    match verdict {
-        Verdict::Refused(reason) => Rendered {
+    match slots::table::check_render(bad, slot, held, k, temp, temp_2, out, aux) {
+        Err(reason) => Rendered {
             bank,
             word,
-            answer: Answer::Refusal(reason),
+            answer: Err(reason),
         },
-        Verdict::Accepted => {
+        Ok(()) => {
             let x = slots::slots::slot_at(bank, slot);
             let r = crate::acts::render(true, x, lines, word, slot, k, temp, temp_2, out, aux);
-            let y = r.slot;
-            let after = slots::slots::with_slot(bank, slot, y);
-            let counts = r.counts;
+            let after = slots::slots::with_slot(bank, slot, r.slot);
             Rendered {
                 bank: after,
                 word: r.word,
-                answer: Answer::Drawn(counts),
+                answer: Ok(r.counts),
             }
         }
     }

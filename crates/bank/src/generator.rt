@@ -23,13 +23,6 @@ pub fn draw(generator: &mut Generator) -> u32
     w
 }
 
-// The word behind a render.
-fn word_of(rendered: Rendered) -> u32
-    ensures { result ≡ rendered.word }
-{
-    rendered.word
-}
-
 // `render`, with the generator lent.
 pub fn render_lent(
     bank: Bank,
@@ -53,7 +46,6 @@ pub fn render_lent(
 {
     let w = generator.word;
     let r = crate::calls::render(bank, lines, w, slot, k, temp, temp_2, out, aux);
-    let next = word_of(r);
-    generator.word = next;
+    generator.word = r.word;
     r
 }

@@ -8,9 +8,8 @@ use lib.Dec.{eqb}
 use lib.ListN.{length}
 use lib.Ieee.{Float}
 use borrow.Author.Tests.{eqb-true}
+use Rattle.std.specs.Prelude.{Result, Ok, Err}
 use Rattle.slots.specs.declared.answers.Reason.{Reason}
-use Rattle.slots.specs.declared.answers.Verdict.{Verdict}
-use Rattle.slots.specs.declared.answers.Verdict.TheVariants.{Accepted, Refused}
 use Rattle.slots.specs.declared.slots.Slot.{Slot}
 use Rattle.slots.specs.Answers.{no_counts, reason_number}
 use Rattle.slots.specs.Slots.{slot_at, with_slot}
@@ -23,7 +22,7 @@ use Rattle.ground.proofs.Part.{length_part}
 use Rattle.ground.proofs.Draw.{always_run, draws_always}
 use Rattle.claims.specs.Claim.{InF32}
 use Rattle.claims.specs.Ledger.{entry}
-use Rattle.claims.proofs.Acts.{Ok, Follows, led_of, act_law}
+use Rattle.claims.proofs.Acts.{OkSlot, Follows, led_of, act_law}
 use Rattle.slot_bytes.proofs.Parts.{bank_after}
 use Rattle.slot_bytes.proofs.Little.{length_slot_bytes}
 use Rattle.bank_abi.proofs.Back.{decode_encode}
@@ -59,33 +58,35 @@ module _ (bs : List ℕ) (mem : List Float) (c : Call) where
   same_word true n e k = ap (λ (x : Bool). verdict x kind_of c) e
   same_word false n e k = ap (λ (m : ℕ). verdict false m c) (k (good bs mem (sym e)).size) ∙ ap (λ (x : Bool). verdict x kind_of c) e
 
-  pub decided : {b : Bool} {n : ℕ} {r v : Verdict} → r ≡ verdict b n c → b ≡ bad_bytes bs mem → (length bs ≡ 3144 → n ≡ kind_of) → r ≡ v
+  pub decided : {b : Bool} {n : ℕ} {r v : Result (Unit {0}) Reason} → r ≡ verdict b n c → b ≡ bad_bytes bs mem → (length bs ≡ 3144 → n ≡ kind_of) → r ≡ v
       → verdict (bad_bytes bs mem) kind_of c ≡ v
   decided {b} {n} e eb en ev = sym (same_word b n eb en) ∙ sym e ∙ ev
 
   -- what an acceptance tells
   pub record Taken : Type 0 where
+    pub word : verdict (bad_bytes bs mem) kind_of c ≡ Ok tt
     pub size : length bs ≡ 3144
     pub slot_within : c.slot < 8
     pub lines : length mem ≡ 10240
     pub sound : Sound (slot_at (decode_bank bs) c.slot)
-    pub rest : first (checks kind_of c.act) ≡ Accepted
+    pub rest : first (checks kind_of c.act) ≡ Ok tt
 
-  pub taken : verdict (bad_bytes bs mem) kind_of c ≡ Accepted → Taken
-  taken e =
+  pub taken : {b : Bool} {n : ℕ} {r : Result (Unit {0}) Reason} → r ≡ verdict b n c → b ≡ bad_bytes bs mem → (length bs ≡ 3144 → n ≡ kind_of) → r ≡ Ok tt → Taken
+  taken e₀ eb en ev =
+      let e = decided e₀ eb en ev in
       let g = begun (bad_bytes bs mem) c.slot kind_of c.act e in
       let h = good bs mem g.good in
       let w = whole (decode_bank bs) mem c.slot h.bank in
-      record { size = h.size; slot_within = g.slot_within; lines = w.size; sound = w.sound; rest = g.rest }
+      record { word = e; size = h.size; slot_within = g.slot_within; lines = w.size; sound = w.sound; rest = g.rest }
 
 -- ---- what an accepted call leaves is a slot that the bytes can hold
 
-small_after : (act : Act) (slot : ℕ) (s : Slot) (word : ℕ) (mem : List Float) → Sound s → length mem ≡ 10240 → slot < 8 → InF32 act → first (checks s.kind act) ≡ Accepted
+small_after : (act : Act) (slot : ℕ) (s : Slot) (word : ℕ) (mem : List Float) → Sound s → length mem ≡ 10240 → slot < 8 → InF32 act → first (checks s.kind act) ≡ Ok tt
     → Numbers (moved_by act slot s word mem).slot
 unfolding moved_by
 small_after act slot s word mem o l h i e =
     let v : Voice = record { slot = s; lines = lines_at slot mem } in
-    let ok : Ok s = record { kind = o.known; place = o.string; stretch = o.stretch; left = o.left } in
+    let ok : OkSlot s = record { kind = o.known; place = o.string; stretch = o.stretch; left = o.left } in
     let size : length (lines_at slot mem) ≡ 1280 = length_part (1280 * slot) 1280 mem (omega arith) in
     let a = draws_always _ (Follows (entry act (led_of s))) (act_def act v) (act_law act v ok size i e) in
     let k = (always_run (Follows (entry act (led_of s))) (act_def act v) word a refl).ok in
@@ -102,13 +103,13 @@ module _ (x : Crossing) (c : Call) where
   unfolding bad_bytes
   same_table e = rw e
 
-  pub refused : (r : Reason) {n : ℕ} → n ≡ reason_number r → verdict (bad_bytes x.bytes x.mem) kind c ≡ Refused r
+  pub refused : (r : Reason) {n : ℕ} → n ≡ reason_number r → verdict (bad_bytes x.bytes x.mem) kind c ≡ Err r
       → Gives x c (record { number = n; counts = no_counts; after = x; bufs = lent c.act })
   unfolding cross_def cross_by call_def call_by
   refused r en e =
       record {
-        is = ap (λ (v : Verdict). cross_by v x c) e ∙ λ i. record { number = sym en i; counts = no_counts; after = x; bufs = lent c.act };
-        agrees = λ b. ap (λ (v : Verdict). numbers_of (call_by v (world_of x) c)) (same_table b ∙ e) ∙ λ i. (sym en i, no_counts, world_of x, lent c.act);
+        is = ap (λ (v : Result (Unit {0}) Reason). cross_by v x c) e ∙ λ i. record { number = sym en i; counts = no_counts; after = x; bufs = lent c.act };
+        agrees = λ b. ap (λ (v : Result (Unit {0}) Reason). numbers_of (call_by v (world_of x) c)) (same_table b ∙ e) ∙ λ i. (sym en i, no_counts, world_of x, lent c.act);
       }
 
   -- an accepted call: the slot that was read and moved, and the bytes that were written
@@ -124,18 +125,17 @@ module _ (x : Crossing) (c : Call) where
         held = subst (λ (q : Moved). SlotF32 q.slot) (sym em') f;
       }
 
-  pub accepted : (y : Crossed) → verdict (bad_bytes x.bytes x.mem) kind c ≡ Accepted → InF32 c.act → Wrote x c y → Gives x c y
+  pub accepted : (y : Crossed) → Taken x.bytes x.mem c → InF32 c.act → Wrote x c y → Gives x c y
   unfolding cross_def cross_by call_def call_by moved_by
-  accepted y e i w =
-      let t = taken x.bytes x.mem c e in
+  accepted y t i w =
       let s = slot_at (decode_bank x.bytes) c.slot in
       let m = moved_by c.act c.slot s x.word x.mem in
       let n : Numbers m.slot = small_after c.act c.slot s x.word x.mem t.sound t.lines t.slot_within i t.rest in
       let d : decode_bank (with_bytes c.slot (encode_slot m.slot) x.bytes) ≡ with_slot (decode_bank x.bytes) c.slot m.slot =
       bank_after x.bytes (encode_slot m.slot) c.slot m.slot t.size t.slot_within (length_slot_bytes m.slot w.held.1) (decode_encode m.slot w.held n) in
       record {
-        is = ap (λ (v : Verdict). cross_by v x c) e ∙ w.is;
-        agrees = λ b. ap (λ (v : Verdict). numbers_of (call_by v (world_of x) c)) (same_table b ∙ e)
+        is = ap (λ (v : Result (Unit {0}) Reason). cross_by v x c) t.word ∙ w.is;
+        agrees = λ b. ap (λ (v : Result (Unit {0}) Reason). numbers_of (call_by v (world_of x) c)) (same_table b ∙ t.word)
             ∙ (λ j. (0, m.counts, record { bank = sym d j; word = m.word; mem = m.mem }, m.bufs))
             ∙ ap decoded w.is;
       }

@@ -5,9 +5,9 @@ use mathlib.Core.List.{List, ◌∷◌, ◌++◌}
 use Prim.Native.Nat.{ℕ, zero, suc, ◌*◌}
 use native.Mathlib.Nat.{add_comm, zero-mul, suc-mul}
 use lib.Dec.{eqb}
+use borrow.Author.Tests.{eq-eqb}
 use lib.ListN.{length, replicate, replicate-append-replicate}
 use lib.Ieee.{to_bits, of_bits}
-use Rattle.ground.specs.Frames.{tab}
 use Rattle.utils.specs.Filter.{svf_new, dc_init}
 use Rattle.modes.specs.Resonator.{svf_new as mode_new, filters_new, resonator_new}
 use Rattle.modal_voice.specs.ModalVoice.{voice_new}
@@ -16,14 +16,6 @@ use Rattle.slots.specs.Slots.{no_string, empty_slot, fresh}
 use Rattle.slot_bytes.specs.Words.{bytes, each}
 use Rattle.slot_bytes.specs.Layout.{svf_words, dc_words, string_words, voice_words, mode_words, batch_words, float_words, modal_words, slot_words, encode_slot, encode_bank}
 use Rattle.bank_abi.specs.Crossing.{fresh_def}
-
-abbrev pub none : ℕ → ℕ
-none i = 0
-
-zeros : (n : ℕ) → tab n none ≡ replicate n 0
-unfolding tab
-zeros zero = refl
-zeros (suc n) = ap (λ (l : List ℕ). 0 ∷ l) (zeros n)
 
 empty_zeros : encode_slot empty_slot ≡ replicate 393 0
 unfolding encode_slot slot_words voice_words string_words svf_words dc_words modal_words mode_words batch_words float_words each bytes empty_slot no_string voice_new resonator_new filters_new mode_new svf_new dc_init to_bits of_bits
@@ -39,10 +31,6 @@ pub fresh_zeros : encode_bank fresh ≡ replicate 3144 0
 unfolding encode_bank fresh
 fresh_zeros = each_zeros 8 393 empty_slot empty_zeros
 
-pub made_fresh : (bs xs : List ℕ) → eqb (length bs) 3144 ≡ true → xs ≡ tab 3144 none → (0, xs) ≡ fresh_def bs
+pub made_fresh : (bs xs : List ℕ) → length bs ≡ 3144 → xs ≡ replicate (length bs) 0 → (0, xs) ≡ fresh_def bs
 unfolding fresh_def
-made_fresh bs xs e h = rw e (ap (λ (l : List ℕ). (0, l)) (h ∙ zeros 3144 ∙ sym fresh_zeros))
-
-pub not_made : (bs : List ℕ) → eqb (length bs) 3144 ≡ false → (1, bs) ≡ fresh_def bs
-unfolding fresh_def
-not_made bs e = rw e
+made_fresh bs xs e h = rw (eq-eqb (length bs) 3144 e) (ap (λ (l : List ℕ). (0, l)) (h ∙ ap (λ (n : ℕ). replicate n 0) e ∙ sym fresh_zeros))

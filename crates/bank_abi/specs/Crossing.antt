@@ -1,9 +1,8 @@
 -- The calls on a bank that crosses as bytes: eight slots one after the other. Assumes nothing.
-use Rattle.std.specs.Prelude.{Bool, true, false, not, ◌&&◌, ◌||◌, cond, List, [], ◌∷◌, ◌≡◌, ℕ, eqb, ltb, length, get_or, Float}
+use Rattle.std.specs.Prelude.{Bool, true, false, not, ◌&&◌, ◌||◌, cond, List, [], ◌∷◌, ◌≡◌, ℕ, eqb, ltb, length, get_or, Float, Result, Ok, Err}
 use Rattle.noise.specs.declared.excitation.Counts.{Counts}
+use Rattle.slots.specs.declared.answers.Reason.{Reason}
 use Rattle.slots.specs.declared.answers.Reason.TheVariants.{Memory}
-use Rattle.slots.specs.declared.answers.Verdict.{Verdict}
-use Rattle.slots.specs.declared.answers.Verdict.TheVariants.{Accepted, Refused}
 use Rattle.slots.specs.Answers.{no_counts, reason_number, number_of, counts_of}
 use Rattle.slots.specs.Slots.{fresh, slot_at}
 use Rattle.slots.specs.Calls.{Bufs, lent}
@@ -49,8 +48,8 @@ pub record Crossed : Type 0 where
   pub bufs : Bufs
 
 -- accepted, the slot that the call names is decoded, moved and encoded in its place; refused, nothing changes
-unfoldable pub cross_by : Verdict → Crossing → Call → Crossed
-cross_by Accepted x c =
+unfoldable pub cross_by : Result (Unit {0}) Reason → Crossing → Call → Crossed
+cross_by (Ok u) x c =
     let m = moved_by c.act c.slot (slot_at (decode_bank x.bytes) c.slot) x.word x.mem in
     record {
       number = 0;
@@ -58,11 +57,11 @@ cross_by Accepted x c =
       after = record { bytes = with_bytes c.slot (encode_slot m.slot) x.bytes; word = m.word; mem = m.mem };
       bufs = m.bufs;
     }
-cross_by (Refused r) x c = record { number = reason_number r; counts = no_counts; after = x; bufs = lent c.act }
+cross_by (Err r) x c = record { number = reason_number r; counts = no_counts; after = x; bufs = lent c.act }
 
 -- what an accepted call gives, and that its slot is one that bytes can hold
 pub record Wrote (x : Crossing) (c : Call) (y : Crossed) : Type 0 where
-  pub is : cross_by Accepted x c ≡ y
+  pub is : cross_by (Ok tt) x c ≡ y
   pub held : SlotF32 (moved_by c.act c.slot (slot_at (decode_bank x.bytes) c.slot) x.word x.mem).slot
 
 -- a call, by the table

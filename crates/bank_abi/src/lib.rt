@@ -12,7 +12,7 @@ pub mod table;
 pub mod voices;
 
 use noise::excitation::Knobs;
-use slots::answers::Verdict;
+use slots::answers::Reason;
 
 // The length of a bank in bytes.
 #[unsafe(no_mangle)]
@@ -23,18 +23,15 @@ pub extern "C" fn bleidhvan_bank_bytes() -> usize
 }
 
 // The bytes become a fresh bank, every slot of it empty; bytes of another length stay as they are, and the answer is 1.
+#[tactic(auto, unfolding(crate::specs::Crossing::fresh_def))]
 #[unsafe(no_mangle)]
 pub extern "C" fn bleidhvan_fresh(bytes: &mut [u8]) -> u32
     ensures { (result, bytes.new) ≡ fresh_def bytes.old }
 {
     if bytes.len() != 3144 {
-        return 1;
+        return u32::from(Reason::Memory);
     }
-    let mut i: usize = 0;
-    while i < 3144 {
-        bytes[i] = 0;
-        i += 1;
-    }
+    bytes.fill(0);
     0
 }
 
@@ -55,10 +52,9 @@ pub extern "C" fn bleidhvan_open(
     }) }
 {
     let bad = crate::table::bad(bytes, lines);
-    let verdict = slots::table::check_open(bad, slot, kind, sample_rate_hz);
-    match verdict {
-        Verdict::Refused(reason) => slots::answers::reason_number(reason),
-        Verdict::Accepted => {
+    match slots::table::check_open(bad, slot, kind, sample_rate_hz) {
+        Err(reason) => u32::from(reason),
+        Ok(()) => {
             let x = bank::acts::open(lines, slot, kind, sample_rate_hz);
             slot_bytes::encode::put_nth(bytes, slot, x);
             0
@@ -78,10 +74,9 @@ pub extern "C" fn bleidhvan_reset(bytes: &mut [u8], lines: &mut [f32], slot: usi
 {
     let bad = crate::table::bad(bytes, lines);
     let kind = crate::table::kind_at(bytes, slot);
-    let verdict = slots::table::check_reset(bad, slot, kind);
-    match verdict {
-        Verdict::Refused(reason) => slots::answers::reason_number(reason),
-        Verdict::Accepted => {
+    match slots::table::check_reset(bad, slot, kind) {
+        Err(reason) => u32::from(reason),
+        Ok(()) => {
             let voice = slot_bytes::decode::string_nth(bytes, slot);
             let after = bank::acts::reset_string(voice, lines, slot);
             slot_bytes::encode::put_string_nth(bytes, slot, after);
@@ -138,10 +133,9 @@ pub extern "C" fn bleidhvan_render(
     };
     let bad = crate::table::bad(bytes, lines);
     let kind = crate::table::kind_at(bytes, slot);
-    let verdict = slots::table::check_render(bad, slot, kind, k, temp, temp_2, out, aux);
-    match verdict {
-        Verdict::Refused(reason) => slots::answers::reason_number(reason),
-        Verdict::Accepted => {
+    match slots::table::check_render(bad, slot, kind, k, temp, temp_2, out, aux) {
+        Err(reason) => u32::from(reason),
+        Ok(()) => {
             let r = crate::voices::render(
                 slow_subnormals,
                 kind,
@@ -156,10 +150,9 @@ pub extern "C" fn bleidhvan_render(
                 aux,
             );
             *word = r.word;
-            let counts = r.counts;
-            *burst = counts.burst;
-            *dust = counts.dust;
-            *dispersion = counts.dispersion;
+            *burst = r.counts.burst;
+            *dust = r.counts.dust;
+            *dispersion = r.counts.dispersion;
             0
         }
     }

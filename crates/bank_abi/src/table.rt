@@ -5,11 +5,11 @@ ghost use Rattle.slots.specs.Table.{bad_slot, bad_slots};
 ghost use Rattle.slot_bytes.specs.Layout.{decode_slot, parts, decode_bank};
 ghost use Rattle.bank_abi.specs.Crossing.{bad_flag, bad_flags, bad_bytes};
 
+use slot_bytes::decode::slots_of;
 use slot_bytes::words::word_at;
 
 // Whether a slot's kind, places, left or flag is bad.
-fn bad_slot(b: &[u8]) -> bool
-    requires { length b.now ≡ 393 }
+fn bad_slot(b: &[u8; 393]) -> bool
     ensures { result ≡ bad_slot (decode_slot b.now) || bad_flag b.now }
 {
     let kind = word_at(b, 0);
@@ -25,42 +25,23 @@ fn bad_slots(bytes: &[u8]) -> bool
     requires { length bytes.now ≡ 3144 }
     ensures { result ≡ bad_slots (decode_bank bytes.now).slots || bad_flags (parts 8 bytes.now) }
 {
-    let mut i: usize = 0;
-    while i < 8 {
-        let from = 393 * i;
-        let to = from + 393;
-        if bad_slot(&bytes[from..to]) {
-            return true;
-        }
-        i += 1;
-    }
-    false
+    slots_of(bytes).iter().any(|b| bad_slot(b))
 }
 
 // Whether number 1 applies.
+#[tactic(auto, using(crate::proofs::NumberOne::or_last, crate::proofs::NumberOne::or_turn), unfolding(crate::specs::Crossing::bad_bytes, crate::specs::Crossing::is_bank, slots::specs::Table::bad))]
 pub fn bad(bytes: &[u8], lines: &[f32]) -> bool
     ensures { result ≡ bad_bytes bytes.now lines.now }
 {
-    if bytes.len() != 3144 {
-        return true;
-    }
-    if lines.len() != 10240 {
-        return true;
-    }
-    bad_slots(bytes)
+    bytes.len() != 3144 || lines.len() != 10240 || bad_slots(bytes)
 }
 
 // The kind of a slot of a bank; where there is no such slot, 0.
 pub fn kind_at(bytes: &[u8], slot: usize) -> u32
     ensures { length bytes.now ≡ 3144 → result ≡ (slot_at (decode_bank bytes.now) slot).kind }
 {
-    if bytes.len() != 3144 {
-        return 0;
+    match slots_of(bytes).get(slot) {
+        Some(b) => word_at(b, 0),
+        None => 0,
     }
-    if slot > 7 {
-        return 0;
-    }
-    let from = 393 * slot;
-    let to = from + 393;
-    word_at(&bytes[from..to], 0)
 }

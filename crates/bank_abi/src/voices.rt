@@ -8,6 +8,7 @@ ghost use Rattle.slot_bytes.specs.Layout.{decode_bank};
 ghost use Rattle.bank_abi.specs.Crossing.{Wrote};
 
 use noise::excitation::{Counts, Knobs};
+use slots::slots::Kind;
 
 // The generator's word after a render, and the words drawn.
 #[derive(Clone, Copy)]
@@ -41,12 +42,10 @@ fn render_string(
 {
     let voice = slot_bytes::decode::string_nth(bytes, slot);
     let r = bank::acts::render_string(voice, lines, word, slot, k, temp, temp_2, out, aux);
-    let after = r.voice;
-    slot_bytes::encode::put_string_nth(bytes, slot, after);
-    let counts = r.counts;
+    slot_bytes::encode::put_string_nth(bytes, slot, r.voice);
     Drawn {
         word: r.word,
-        counts,
+        counts: r.counts,
     }
 }
 
@@ -75,12 +74,10 @@ fn render_modal(
 {
     let x = slot_bytes::decode::nth(bytes, slot);
     let r = bank::acts::render_modal(around, x, word, slot, k, temp, temp_2, out, aux);
-    let y = r.slot;
-    slot_bytes::encode::put_nth(bytes, slot, y);
-    let counts = r.counts;
+    slot_bytes::encode::put_nth(bytes, slot, r.slot);
     Drawn {
         word: r.word,
-        counts,
+        counts: r.counts,
     }
 }
 
@@ -110,12 +107,12 @@ pub fn render(
     }) }
 {
     if around {
-        if kind == 1 {
+        if kind == Kind::String as u32 {
             return render_string(bytes, lines, word, slot, k, temp, temp_2, out, aux);
         }
         return render_modal(true, bytes, word, slot, k, temp, temp_2, out, aux);
     }
-    if kind == 1 {
+    if kind == Kind::String as u32 {
         return render_string(bytes, lines, word, slot, k, temp, temp_2, out, aux);
     }
     render_modal(false, bytes, word, slot, k, temp, temp_2, out, aux)

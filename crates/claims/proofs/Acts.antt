@@ -21,9 +21,8 @@ use Rattle.noise.proofs.Ranges.{Knob, Fundamental, knob, fundamental}
 use Rattle.string_voice.proofs.Drawn as string
 use Rattle.modal_voice.specs.ModalVoice as modal-specs
 use Rattle.modal_voice.proofs.Drawn as modal
+use Rattle.std.specs.Prelude.{Result, Ok, Err}
 use Rattle.slots.specs.declared.answers.Reason.{Reason}
-use Rattle.slots.specs.declared.answers.Verdict.{Verdict}
-use Rattle.slots.specs.declared.answers.Verdict.TheVariants.{Accepted, Refused}
 use Rattle.slots.specs.declared.slots.Slot.{Slot}
 use Rattle.slots.specs.Slots.{no_string}
 use Rattle.slots.specs.Calls.{Bufs, Act, opening, reset, render, Voice, Done, open_def, reset_def, string_def, modal_def, render_def, act_def}
@@ -37,7 +36,7 @@ use Rattle.claims.proofs.Agreement.{left_is, phase_is, dispersion_is}
 abbrev pub led_of : Slot → Led
 led_of x = record { kind = x.kind; left = x.string.remaining_noise_samples; phase = x.string.string.src_phase }
 
-pub record Ok (x : Slot) : Type 0 where
+pub record OkSlot (x : Slot) : Type 0 where
   pub kind : x.kind ≤ 2
   pub place : x.string.string.string < 1024
   pub stretch : x.string.string.stretch < 256
@@ -46,7 +45,7 @@ pub record Ok (x : Slot) : Type 0 where
 -- what a call for one voice leaves is what the ledger says
 pub record Follows (e : Entry) (d : Done) : Type 0 where
   pub led : led_of d.voice.slot ≡ e.led
-  pub ok : Ok d.voice.slot
+  pub ok : OkSlot d.voice.slot
   pub lines : length d.voice.lines ≡ 1280
   pub counts : d.counts ≡ e.counts
 
@@ -67,7 +66,7 @@ in_order : (sustain : Bool) (l n d : ℕ) → excitation_words sustain l n + d �
 in_order true l n d = omega arith
 in_order false l n d = omega arith
 
-module _ (k : Knobs) (b : Bufs) (v : Voice) (o : Ok v.slot) (e : length v.lines ≡ 1280) (a : Alike b) where
+module _ (k : Knobs) (b : Bufs) (v : Voice) (o : OkSlot v.slot) (e : length v.lines ≡ 1280) (a : Alike b) where
   module _ (f : Fundamental k.f0) (s : Knob k.structure) (t : T (fits binary32 k.structure)) where
     counts_are : string.counts_of k v.slot.string (length b.temp) ≡ (string_entry k (length b.temp) (led_of v.slot)).counts
     unfolding string_entry
@@ -127,16 +126,16 @@ module _ (k : Knobs) (b : Bufs) (v : Voice) (o : Ok v.slot) (e : length v.lines 
 
 -- ---- the table
 
-abbrev accepts : Verdict → Bool
-accepts Accepted = true
-accepts (Refused r) = false
+abbrev accepts : Result (Unit {0}) Reason → Bool
+accepts (Ok u) = true
+accepts (Err r) = false
 
 -- a check of the table that did not apply, and every check of an accepted call
-pub passed : (b : Bool) (r : Reason) (v : Verdict) → cond b (Refused r) v ≡ Accepted → (b ≡ false) × (v ≡ Accepted)
+pub passed : (b : Bool) (r : Reason) (v : Result (Unit {0}) Reason) → cond b (Err r) v ≡ Ok tt → (b ≡ false) × (v ≡ Ok tt)
 passed true r v e = absurd (false≢true (ap accepts e))
 passed false r v e = (refl, e)
 
-all_passed : (cs : List Check) → first cs ≡ Accepted → Each (λ c. c.applies ≡ false) cs
+all_passed : (cs : List Check) → first cs ≡ Ok tt → Each (λ c. c.applies ≡ false) cs
 unfolding first
 all_passed [] e = tt
 all_passed (c ∷ cs) e = let p = passed c.applies c.reason (first cs) e in (p.0, all_passed cs p.1)
@@ -191,7 +190,7 @@ open_law (suc (suc (suc j))) rate v e t = let kind = suc (suc (suc j)) in absurd
     above_two kind l false true f g t = omega (arith, g tt)
     above_two kind l false false f g t = t
 
-reset_law : (v : Voice) → Ok v.slot → length v.lines ≡ 1280 → Follows (entry reset (led_of v.slot)) (reset_def v)
+reset_law : (v : Voice) → OkSlot v.slot → length v.lines ≡ 1280 → Follows (entry reset (led_of v.slot)) (reset_def v)
 unfolding entry reset_def voice_reset string_reset
 reset_law v o e =
     record {
@@ -201,7 +200,7 @@ reset_law v o e =
       counts = refl;
     }
 
-render_law : (kind : ℕ) (k : Knobs) (b : Bufs) (v : Voice) → Ok v.slot → length v.lines ≡ 1280 → Alike b
+render_law : (kind : ℕ) (k : Knobs) (b : Bufs) (v : Voice) → OkSlot v.slot → length v.lines ≡ 1280 → Alike b
     → Fundamental k.f0 → Knob k.structure → T (fits binary32 k.structure)
     → ByLedger (render_entry kind k (length b.temp) (led_of v.slot)) (render_def kind k b v)
 unfolding render_entry render_def
@@ -209,7 +208,7 @@ render_law zero k b v o e a f s t = (refl, record { led = refl; ok = o; lines = 
 render_law (suc zero) k b v o e a f s t = string_law k b v o e a f s t
 render_law (suc (suc j)) k b v o e a f s t = modal_law k b v o e a
 
-pub act_law : (a : Act) (v : Voice) → Ok v.slot → length v.lines ≡ 1280 → InF32 a → first (checks v.slot.kind a) ≡ Accepted
+pub act_law : (a : Act) (v : Voice) → OkSlot v.slot → length v.lines ≡ 1280 → InF32 a → first (checks v.slot.kind a) ≡ Ok tt
     → ByLedger (entry a (led_of v.slot)) (act_def a v)
 unfolding act_def entry checks
 act_law (opening kind rate) v o e i p =

@@ -18,11 +18,9 @@ use Rattle.ground.proofs.Each.{each_at, each_set}
 use Rattle.ground.proofs.Draw.{fed_words, words_are, ending_is, always_run, draws_length, draws_always}
 use Rattle.ground.proofs.Part.{length_part, length_put, part_put, part_put_below, part_put_above}
 use Rattle.slots.specs.declared.slots.Slot.{Slot}
+use Rattle.std.specs.Prelude.{Result, Ok, Err}
 use Rattle.slots.specs.declared.answers.Reason.{Reason}
 use Rattle.slots.specs.declared.answers.Reason.TheVariants.{NoSlot}
-use Rattle.slots.specs.declared.answers.Verdict.{Verdict}
-use Rattle.slots.specs.declared.answers.Verdict.TheVariants.{Accepted, Refused}
-use Rattle.slots.specs.declared.answers.Answer.TheVariants.{Drawn}
 use Rattle.slots.specs.Answers.{counts_of}
 use Rattle.slots.specs.Slots.{no_string, empty_slot, slot_at, with_slot}
 use Rattle.slots.specs.Calls.{Done, act_def}
@@ -30,7 +28,7 @@ use Rattle.slots.specs.Table.{Call, first, checks, verdict, bad_slot, bad_slots,
 use Rattle.bank.specs.World.{World, lines_at, with_lines, voice_at, Event, call_by, call_def}
 use Rattle.claims.specs.Ledger.{Led, fresh_led, Entry, entry, Line, line_by, line_of}
 use Rattle.claims.specs.Claim.{nothing, given, feed, of_done, hear, seen, total, InF32}
-use Rattle.claims.proofs.Acts.{led_of, Ok, Follows, ByLedger, passed, act_law}
+use Rattle.claims.proofs.Acts.{led_of, OkSlot, Follows, ByLedger, passed, act_law}
 
 map_set : {A B : Type 0} (f : A → B) (l : List A) (i : ℕ) (y : A) → map f (set l i y) ≡ set (map f l) i (f y)
 map_set f [] i y = refl
@@ -51,7 +49,7 @@ lines_other mem new s t full size h d = go (dec_lt t s)
 pub record Inv (w : World) : Type 0 where
   pub full : length w.mem ≡ 10240
   pub eight : length w.bank.slots ≡ 8
-  pub oks : Each Ok w.bank.slots
+  pub oks : Each OkSlot w.bank.slots
 
 abbrev pub leds : World → List Led
 leds w = map led_of w.bank.slots
@@ -60,7 +58,7 @@ led_at : (w : World) (s : ℕ) → get_or (leds w) s fresh_led ≡ led_of (slot_
 unfolding empty_slot no_string
 led_at w s = get_or-map led_of w.bank.slots s empty_slot
 
-no_bad : (l : List Slot) → Each Ok l → bad_slots l ≡ false
+no_bad : (l : List Slot) → Each OkSlot l → bad_slots l ≡ false
 unfolding bad_slots bad_slot
 no_bad [] p = refl
 no_bad (x ∷ xs) p =
@@ -88,7 +86,7 @@ pub record Step (w : World) (ls : List Led) (c : Call) (e : Event) (l : Line) : 
   pub alone_is : (s : ℕ) → s < 8 → hear (voice_at s w) (feed s c l.answer e.dealt) ≡ some (seen s e)
 
 module _ (w : World) (v : Inv w) (c : Call) where
-  module _ (f : InF32 c.act) (h : c.slot < 8) (p : first (checks (slot_at w.bank c.slot).kind c.act) ≡ Accepted) where
+  module _ (f : InF32 c.act) (h : c.slot < 8) (p : first (checks (slot_at w.bank c.slot).kind c.act) ≡ Ok tt) where
     slot_within : c.slot < length w.bank.slots
     slot_within = omega (arith, v.eight)
 
@@ -107,7 +105,7 @@ module _ (w : World) (v : Inv w) (c : Call) where
     law : ByLedger en m
     unfolding m en
     law =
-        act_law c.act (voice_at c.slot w) (each_at Ok w.bank.slots c.slot empty_slot slot_within v.oks)
+        act_law c.act (voice_at c.slot w) (each_at OkSlot w.bank.slots c.slot empty_slot slot_within v.oks)
         (length_part (1280 * c.slot) 1280 w.mem lines_in) f p
 
     good : Follows en d
@@ -146,7 +144,7 @@ module _ (w : World) (v : Inv w) (c : Call) where
         record {
           full = length_put (1280 * c.slot) 1280 d.voice.lines w.mem lines_in good.lines ∙ v.full;
           eight = length-set w.bank.slots c.slot d.voice.slot ∙ v.eight;
-          oks = each_set Ok w.bank.slots c.slot d.voice.slot good.ok v.oks;
+          oks = each_set OkSlot w.bank.slots c.slot d.voice.slot good.ok v.oks;
         }
 
     heard : (s : ℕ) (b : Bool) → eqb c.slot s ≡ b
@@ -161,11 +159,11 @@ module _ (w : World) (v : Inv w) (c : Call) where
         let n : s ≢ c.slot = λ q. true≢false (sym (eq-eqb c.slot s (sym q)) ∙ e) in
         λ i. some (record { voice = sym (voice_other s n) i; bufs = none })
 
-    accepted : Step w (leds w) c (call_by Accepted w c) (line_by Accepted (leds w) c)
+    accepted : Step w (leds w) c (call_by (Ok tt) w c) (line_by (Ok tt) (leds w) c)
     unfolding call_by line_by m d after
     accepted =
         record {
-          same = λ i. Drawn ((good.counts ∙ ap (λ (x : Entry). x.counts) (sym entry_is)) i);
+          same = λ i. Ok ((good.counts ∙ ap (λ (x : Entry). x.counts) (sym entry_is)) i);
           slots = ap (λ (x : Entry). set (leds w) c.slot x.led) entry_is
               ∙ ap (λ (x : Led). set (leds w) c.slot x) (sym good.led)
               ∙ sym (map_set led_of w.bank.slots c.slot d.voice.slot);
@@ -175,16 +173,16 @@ module _ (w : World) (v : Inv w) (c : Call) where
           alone_is = λ s k. heard s (eqb c.slot s) refl;
         }
 
-  refused : (r : Reason) → Step w (leds w) c (call_by (Refused r) w c) (line_by (Refused r) (leds w) c)
+  refused : (r : Reason) → Step w (leds w) c (call_by (Err r) w c) (line_by (Err r) (leds w) c)
   unfolding call_by line_by
   refused r = record { same = refl; slots = refl; inv = v; dealt_is = refl; ends_is = refl; alone_is = λ s k. refl }
 
-  by_verdict : InF32 c.act → (r : Verdict) → verdict false (slot_at w.bank c.slot).kind c ≡ r → Step w (leds w) c (call_by r w c) (line_by r (leds w) c)
+  by_verdict : InF32 c.act → (r : Result (Unit {0}) Reason) → verdict false (slot_at w.bank c.slot).kind c ≡ r → Step w (leds w) c (call_by r w c) (line_by r (leds w) c)
   unfolding verdict first
-  by_verdict f Accepted e =
+  by_verdict f (Ok u) e =
       let q = passed (ltb 7 c.slot) NoSlot (first (checks (slot_at w.bank c.slot).kind c.act)) e in
       accepted f (suc-le-suc (ltb-false 7 c.slot q.0)) q.1
-  by_verdict f (Refused r) e = refused r
+  by_verdict f (Err r) e = refused r
 
   pub step : InF32 c.act → Step w (leds w) c (call_def w c) (line_of 10240 (leds w) c)
   unfolding call_def line_of

@@ -9,10 +9,9 @@ use lib.Ieee.{Float, fin, binary32, of_bits, add, sub, mul, div, lt, le, neg, to
 use Rattle.ground.specs.F32.{c0, c0·26, c0·5, c48000}
 use Rattle.waveguide.specs.String.{non_linearity, words_of}
 use Rattle.string_voice.specs.StringVoice.{amount}
+use Rattle.std.specs.Prelude.{Ok, Err}
 use Rattle.slots.specs.declared.answers.Knob.TheVariants.{F0}
 use Rattle.slots.specs.declared.answers.Reason.TheVariants.{TooLong, OutOfRange}
-use Rattle.slots.specs.declared.answers.Verdict.TheVariants.{Accepted, Refused}
-use Rattle.slots.specs.declared.answers.Answer.TheVariants.{Drawn}
 use Rattle.slots.specs.Answers.{no_counts}
 use Rattle.slots.specs.Calls.{Bufs, opening, render}
 use Rattle.slots.specs.Table.{Call, first, within, alike, checks, verdict}
@@ -49,7 +48,7 @@ unfolding steps next_phase whole ratio held_period add sub div mul lt le of_bits
 steps_value = refl
 
 -- burst 8, dust 0, dispersion 3
-pub answers_value : map (λ l. l.answer) (ledger 10240 calls) ≡ Drawn no_counts ∷ Drawn (record { burst = 8; dust = 0; dispersion = 3 }) ∷ []
+pub answers_value : map (λ l. l.answer) (ledger 10240 calls) ≡ Ok no_counts ∷ Ok (record { burst = 8; dust = 0; dispersion = 3 }) ∷ []
 unfolding ledger ledger_from line_of line_by verdict first checks within alike entry render_entry string_entry period steps phase_after next_phase whole ratio held_period add sub mul div lt le of_bits to_unsigned
 answers_value = refl
 
@@ -60,15 +59,15 @@ left_value = refl
 
 -- ---- the table: length 4,096 and f0 0.5 are accepted, 4,097 and the next float above 0.5 are not
 
-pub longest : verdict false 1 (struck c0·5 4096) ≡ Accepted
+pub longest : verdict false 1 (struck c0·5 4096) ≡ Ok tt
 unfolding verdict first checks within alike lt le of_bits
 longest = refl
 
-pub too_long : verdict false 1 (struck c0·5 4097) ≡ Refused TooLong
+pub too_long : verdict false 1 (struck c0·5 4097) ≡ Err TooLong
 unfolding verdict first checks within alike lt le of_bits
 too_long = refl
 
-pub too_high : verdict false 1 (struck (of_bits binary32 0x3f000001) 4096) ≡ Refused (OutOfRange F0)
+pub too_high : verdict false 1 (struck (of_bits binary32 0x3f000001) 4096) ≡ Err (OutOfRange F0)
 unfolding verdict first checks within alike lt le of_bits
 too_high = refl
 

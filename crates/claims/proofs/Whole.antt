@@ -13,11 +13,10 @@ use lib.Ieee.{Float}
 use Rattle.ground.specs.Draw.{moved, stream}
 use Rattle.ground.specs.Each.{Each}
 use Rattle.ground.proofs.Draw.{moved_add, stream_add, length_stream, stream_at}
+use Rattle.std.specs.Prelude.{Result, Ok, Err}
+use Rattle.noise.specs.declared.excitation.Counts.{Counts}
+use Rattle.slots.specs.declared.answers.Reason.{Reason}
 use Rattle.slots.specs.declared.answers.Reason.TheVariants.{Memory}
-use Rattle.slots.specs.declared.answers.Verdict.{Verdict}
-use Rattle.slots.specs.declared.answers.Verdict.TheVariants.{Accepted, Refused}
-use Rattle.slots.specs.declared.answers.Answer.{Answer}
-use Rattle.slots.specs.declared.answers.Answer.TheVariants.{Refusal}
 use Rattle.slots.specs.Answers.{counts_of, number_of}
 use Rattle.slots.specs.Slots.{no_string, empty_slot, fresh}
 use Rattle.slots.specs.Calls.{Voice}
@@ -25,7 +24,7 @@ use Rattle.slots.specs.Table.{Call, first, verdict, bad}
 use Rattle.bank.specs.World.{World, start, lines_at, voice_at, Event, call_by, call_def, run_from, end_from}
 use Rattle.claims.specs.Ledger.{Led, fresh_led, Line, line_by, line_of, ledger_from, ledger}
 use Rattle.claims.specs.Claim.{Feed, feed, feeds, Heard, hear, note, go_on, alone, seen, sum_of, total, drawn, dealt, Kept, Account, InF32, Demand3}
-use Rattle.claims.proofs.Acts.{Ok}
+use Rattle.claims.proofs.Acts.{OkSlot}
 use Rattle.claims.proofs.OneCall.{Inv, leds, Step, step}
 
 -- ---- the list
@@ -65,7 +64,7 @@ facts (c ∷ cs) w ls q v f =
 
 -- ---- the sums
 
-totals : (xs : List Answer)
+totals : (xs : List (Result Counts Reason))
     → sum_of (λ a. total (counts_of a)) xs ≡ sum_of (λ a. (counts_of a).burst) xs + sum_of (λ a. (counts_of a).dust) xs + sum_of (λ a. (counts_of a).dispersion) xs
 totals [] = refl
 totals (a ∷ xs) = omega (arith, totals xs)
@@ -77,16 +76,16 @@ sum_map f g (x ∷ xs) = ap (λ (k : ℕ). f (g x) + k) (sum_map f g xs)
 balanced : (es : List Event) (ls : List Line) → map (λ e. e.answer) es ≡ map (λ l. l.answer) ls
     → drawn es ≡ sum_of (λ l. (counts_of l.answer).burst) ls + sum_of (λ l. (counts_of l.answer).dust) ls + sum_of (λ l. (counts_of l.answer).dispersion) ls
 balanced es ls q =
-    let f : Line → Answer = λ l. l.answer in
+    let f : Line → Result Counts Reason = λ l. l.answer in
     let p : drawn es ≡ sum_of (λ a. total (counts_of a)) (map f ls) = sym (sum_map (λ a. total (counts_of a)) (λ e. e.answer) es) ∙ ap (sum_of (λ a. total (counts_of a))) q in
     omega (arith, p, totals (map f ls), sum_map (λ a. (counts_of a).burst) f ls, sum_map (λ a. (counts_of a).dust) f ls, sum_map (λ a. (counts_of a).dispersion) f ls)
 
 -- ---- refusals change nothing
 
-kept_by : (r : Verdict) (w : World) (c : Call) → number_of (call_by r w c).answer ≢ 0 → Kept (call_by r w c)
+kept_by : (r : Result (Unit {0}) Reason) (w : World) (c : Call) → number_of (call_by r w c).answer ≢ 0 → Kept (call_by r w c)
 unfolding call_by
-kept_by Accepted w c d = absurd (d refl)
-kept_by (Refused r) w c d = record { world = refl; bufs = refl; counts = refl; dealt = refl }
+kept_by (Ok u) w c d = absurd (d refl)
+kept_by (Err r) w c d = record { world = refl; bufs = refl; counts = refl; dealt = refl }
 
 all_kept : (calls : List Call) (w : World) → Each (λ e. number_of e.answer ≢ 0 → Kept e) (run_from w calls)
 unfolding run_from call_def
@@ -97,17 +96,17 @@ all_kept (c ∷ cs) w = (kept_by _ w c, all_kept cs _)
 
 record Idle (w : World) (calls : List Call) (es : List Event) (ns : List Line) : Type 0 where
   answers : map (λ e. e.answer) es ≡ map (λ l. l.answer) ns
-  ones : Each (λ e. e.answer ≡ Refusal Memory) es
+  ones : Each (λ e. e.answer ≡ Err Memory) es
   drawn_is : drawn es ≡ 0
   dealt_is : dealt es ≡ []
   ends : end_from w calls ≡ w
 
 module _ (w : World) (d : length w.mem ≢ 10240) where
-  one_event : (c : Call) → call_def w c ≡ call_by (Refused Memory) w c
+  one_event : (c : Call) → call_def w c ≡ call_by (Err Memory) w c
   unfolding call_def bad verdict first
   one_event c = rw (ne_eqb (length w.mem) 10240 d)
 
-  one_line : (ls : List Led) (c : Call) → line_of (length w.mem) ls c ≡ line_by (Refused Memory) ls c
+  one_line : (ls : List Led) (c : Call) → line_of (length w.mem) ls c ≡ line_by (Err Memory) ls c
   unfolding line_of verdict first
   one_line ls c = rw (ne_eqb (length w.mem) 10240 d)
 
@@ -119,9 +118,9 @@ module _ (w : World) (d : length w.mem ≢ 10240) where
       let r = idle cs ls in
       let x : end_from (call_def w c).after cs ≡ w = ap (λ (e : Event). end_from e.after cs) (one_event c) ∙ r.ends in
       subst (λ (e : Event). Idle w (c ∷ cs) (e ∷ run_from e.after cs) (line_of n ls c ∷ ledger_from n (line_of n ls c).slots cs)) (sym (one_event c))
-      (subst (λ (l : Line). Idle w (c ∷ cs) (call_by (Refused Memory) w c ∷ run_from w cs) (l ∷ ledger_from n l.slots cs)) (sym (one_line ls c))
+      (subst (λ (l : Line). Idle w (c ∷ cs) (call_by (Err Memory) w c ∷ run_from w cs) (l ∷ ledger_from n l.slots cs)) (sym (one_line ls c))
       (record {
-        answers = ap (λ (xs : List Answer). Refusal Memory ∷ xs) r.answers;
+        answers = ap (λ (xs : List (Result Counts Reason)). Err Memory ∷ xs) r.answers;
         ones = (refl, r.ones);
         drawn_is = omega (arith, r.drawn_is);
         dealt_is = r.dealt_is;
@@ -130,7 +129,7 @@ module _ (w : World) (d : length w.mem ≢ 10240) where
 
 -- ---- the whole
 
-empty_ok : Ok empty_slot
+empty_ok : OkSlot empty_slot
 unfolding empty_slot no_string
 empty_ok = record { kind = lit≤ tt; place = lit< tt; stretch = lit< tt; left = zero-le }
 

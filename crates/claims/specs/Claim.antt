@@ -1,13 +1,12 @@
 -- Demand 3: the voice heard alone, and the claim about a whole list of calls. Assumes nothing.
-use Rattle.std.specs.Prelude.{◌≡◌, ◌≢◌, cond, List, [], ◌∷◌, ◌++◌, map, ℕ, suc, ◌+◌, ◌^◌, ◌<◌, T, eqb, length, get_or, Float}
+use Rattle.std.specs.Prelude.{◌≡◌, ◌≢◌, cond, List, [], ◌∷◌, ◌++◌, map, ℕ, suc, ◌+◌, ◌^◌, ◌<◌, T, eqb, length, get_or, Float, Result, Ok, Err}
 use Rattle.std.proofs.Math.Option.{Option, none, some}
 use Rattle.std.specs.Float.{binary32}
 use Rattle.std.specs.Float.Ieee.{fits}
 use Rattle.ground.specs.Draw.{moved, fed}
 use Rattle.ground.specs.Each.{Each}
 use Rattle.noise.specs.declared.excitation.Counts.{Counts}
-use Rattle.slots.specs.declared.answers.Answer.{Answer}
-use Rattle.slots.specs.declared.answers.Answer.TheVariants.{Drawn, Refusal}
+use Rattle.slots.specs.declared.answers.Reason.{Reason}
 use Rattle.slots.specs.declared.answers.Reason.TheVariants.{Memory}
 use Rattle.slots.specs.Answers.{no_counts, counts_of, number_of}
 use Rattle.slots.specs.Slots.{empty_slot}
@@ -24,9 +23,9 @@ pub data Feed : Type 0 where
   given : Act → List ℕ → Feed
 
 -- it is fed the accepted calls that name its slot, by the ledger's answer
-abbrev pub feed : ℕ → Call → Answer → List ℕ → Feed
-feed s c (Drawn n) ws = cond (eqb c.slot s) (given c.act ws) nothing
-feed s c (Refusal r) ws = nothing
+abbrev pub feed : ℕ → Call → Result Counts Reason → List ℕ → Feed
+feed s c (Ok n) ws = cond (eqb c.slot s) (given c.act ws) nothing
+feed s c (Err r) ws = nothing
 
 abbrev pub feeds : ℕ → List Call → List Line → List (List ℕ) → List Feed
 feeds s [] ls wss = []
@@ -62,9 +61,9 @@ alone v (f ∷ fs) = go_on (hear v f) (λ u. alone u fs)
 
 -- ---- the same, of slot s in the bank after an event
 
-abbrev pub own : ℕ → Answer → Event → Option Bufs
-own s (Drawn n) e = cond (eqb e.call.slot s) (some e.bufs) none
-own s (Refusal r) e = none
+abbrev pub own : ℕ → Result Counts Reason → Event → Option Bufs
+own s (Ok n) e = cond (eqb e.call.slot s) (some e.bufs) none
+own s (Err r) e = none
 
 abbrev pub seen : ℕ → Event → Heard
 seen s e = record { voice = voice_at s e.after; bufs = own s e.answer e }
@@ -116,7 +115,7 @@ pub record Account (seed : ℕ) (mem : List Float) (calls : List Call) (es : Lis
   pub apart : length mem ≡ 10240 → (s : ℕ) → s < 8
       → alone (record { slot = empty_slot; lines = lines_at s mem }) (feeds s calls ls (map (λ e. e.dealt) es)) ≡ some (map (seen s) es)
   -- line memory of another length: every call is refused with 1, nothing is drawn and nothing changes
-  pub short : length mem ≢ 10240 → Each (λ e. e.answer ≡ Refusal Memory) es × (end_from (start seed mem) calls ≡ start seed mem) × (drawn es ≡ 0)
+  pub short : length mem ≢ 10240 → Each (λ e. e.answer ≡ Err Memory) es × (end_from (start seed mem) calls ≡ start seed mem) × (drawn es ≡ 0)
 
 -- a structure is an f32, as every knob is: of another number just above 0.26 the amount of the dispersion would round to 0
 abbrev pub InF32 : Act → Type 0

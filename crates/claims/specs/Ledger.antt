@@ -1,14 +1,11 @@
 -- 01's ledger, from its own words. It reads the calls and the length of line memory, and cites nothing of the voices. Assumes nothing.
-use Rattle.std.specs.Prelude.{Bool, not, ◌||◌, cond, List, [], ◌∷◌, ℕ, zero, suc, ◌+◌, ◌-◌, min, eqb, length, get_or, set, replicate, Float}
+use Rattle.std.specs.Prelude.{Bool, not, ◌||◌, cond, List, [], ◌∷◌, ℕ, zero, suc, ◌+◌, ◌-◌, min, eqb, length, get_or, set, replicate, Float, Result, Ok, Err}
 use Rattle.std.specs.Float.{binary32}
 use Rattle.std.specs.Float.Ieee.{of_bits, lt, le, to_unsigned}
 use Rattle.ground.specs.F32.{◌⊕◌, ◌⊖◌, ◌⊗◌, ◌⊘◌, c0, c1, c4}
 use Rattle.noise.specs.declared.excitation.Knobs.{Knobs}
 use Rattle.noise.specs.declared.excitation.Counts.{Counts}
-use Rattle.slots.specs.declared.answers.Verdict.{Verdict}
-use Rattle.slots.specs.declared.answers.Verdict.TheVariants.{Accepted, Refused}
-use Rattle.slots.specs.declared.answers.Answer.{Answer}
-use Rattle.slots.specs.declared.answers.Answer.TheVariants.{Drawn, Refusal}
+use Rattle.slots.specs.declared.answers.Reason.{Reason}
 use Rattle.slots.specs.Answers.{no_counts}
 use Rattle.slots.specs.Calls.{Act, opening, reset, render}
 use Rattle.slots.specs.Table.{Call, verdict}
@@ -85,15 +82,15 @@ entry (render k b) l = render_entry l.kind k (length b.temp) l
 
 -- a call's answer by the ledger, and the slots after it
 pub record Line : Type 0 where
-  pub answer : Answer
+  pub answer : Result Counts Reason
   pub slots : List Led
 
 -- refused calls change nothing
-unfoldable pub line_by : Verdict → List Led → Call → Line
-line_by Accepted ls c =
+unfoldable pub line_by : Result (Unit {0}) Reason → List Led → Call → Line
+line_by (Ok u) ls c =
     let e = entry c.act (get_or ls c.slot fresh_led) in
-    record { answer = Drawn e.counts; slots = set ls c.slot e.led }
-line_by (Refused r) ls c = record { answer = Refusal r; slots = ls }
+    record { answer = Ok e.counts; slots = set ls c.slot e.led }
+line_by (Err r) ls c = record { answer = Err r; slots = ls }
 
 -- of number 1 only the length of line memory can come up
 unfoldable pub line_of : ℕ → List Led → Call → Line

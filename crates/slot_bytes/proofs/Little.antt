@@ -1,4 +1,7 @@
 -- Words in bytes: what is read, what is written, and words written one after the other. Assumes nothing.
+use Rattle.std.specs.Int.{to_le_bytes}
+use Rattle.std.specs.Simd.{first_chunks}
+use Rattle.std.proofs.Common.{w64}
 use mathlib.Core.Path.{◌≡◌, refl, sym, ◌∙◌, ap, subst}
 use mathlib.Core.List.{List, [], ◌∷◌, ◌++◌, append_assoc, append-nil}
 use Prim.Native.Nat.{ℕ, zero, suc, ◌+◌, ◌*◌, ◌/◌, ◌%◌, ◌<◌, ◌≤◌}
@@ -59,6 +62,28 @@ stored k w bs h =
     let e : sets bs n xs ≡ (take n bs ++ xs) ++ drop (n + 4) bs = sets-eq xs bs n h in
     let d : take n bs ++ (xs ++ drop (n + 4) bs) ≡ take n bs ++ (xs ++ drop 4 (drop n bs)) = ap (λ (ys : List ℕ). take n bs ++ (xs ++ ys)) (sym (drop-drop 4 n bs)) in
     s ∙ e ∙ append_assoc (take n bs) xs (drop (n + 4) bs) ∙ d
+
+-- four bytes copied over are a word written: j is the code's end less its start
+pub stored_row : (k w j : ℕ) (bs : List ℕ) {xs : List ℕ} → j ≡ 4 → xs ≡ take 4 (to_le_bytes w64 w) → take (4 * k) bs ++ (xs ++ drop j (drop (4 * k) bs)) ≡ put_words k (w ∷ []) bs
+unfolding put_words bytes put
+stored_row k w j bs ej e = λ i. take (4 * k) bs ++ (e i ++ drop (ej i) (drop (4 * k) bs))
+
+-- the k-th chunk of four
+pub chunk : (n k : ℕ) (bs : List ℕ) → k < n → 4 * n ≤ length bs
+    → get_or (first_chunks 4 n bs) k [] ≡ get_or bs (4 * k) 0 ∷ get_or bs (4 * k + 1) 0 ∷ get_or bs (4 * k + 2) 0 ∷ get_or bs (4 * k + 3) 0 ∷ []
+chunk zero k bs h l = absurd (omega arith)
+chunk (suc n) k [] h l = absurd (omega arith)
+chunk (suc n) k (a ∷ []) h l = absurd (omega arith)
+chunk (suc n) k (a ∷ b ∷ []) h l = absurd (omega arith)
+chunk (suc n) k (a ∷ b ∷ c ∷ []) h l = absurd (omega arith)
+chunk (suc n) zero (a ∷ b ∷ c ∷ d ∷ bs) h l = refl
+chunk (suc n) (suc k) (a ∷ b ∷ c ∷ d ∷ bs) h l =
+    chunk n k bs (omega arith) (omega arith)
+    ∙ λ i. sym (past a b c d bs (4 * suc k) (4 * k) (omega arith)) i
+    ∷ sym (past a b c d bs (4 * suc k + 1) (4 * k + 1) (omega arith)) i
+    ∷ sym (past a b c d bs (4 * suc k + 2) (4 * k + 2) (omega arith)) i
+    ∷ sym (past a b c d bs (4 * suc k + 3) (4 * k + 3) (omega arith)) i
+    ∷ []
 
 -- ---- words written one after the other
 

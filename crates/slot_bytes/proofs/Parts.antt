@@ -1,4 +1,5 @@
 -- The bytes of eight slots: a slot's part, the bank that they decode to, and a slot's bytes replaced. Assumes nothing.
+use Rattle.std.specs.Simd.{first_chunks}
 use mathlib.Core.Path.{◌≡◌, refl, sym, ◌∙◌, ap}
 use mathlib.Core.List.{List, [], ◌∷◌, ◌++◌, map, append_assoc}
 use Prim.Native.Nat.{ℕ, zero, suc, ◌+◌, ◌-◌, ◌*◌, ◌<◌, ◌≤◌}
@@ -49,6 +50,19 @@ unfolding decode_bank
 slot_is bs slot h =
     let l = length_parts 8 bs in
     map_at decode_slot (parts 8 bs) slot [] empty_slot (omega arith) ∙ ap decode_slot (part_at 8 slot bs [] h)
+
+-- the slot that an element of the parts decodes to
+pub slot_of : (bs : List ℕ) (slot : ℕ) (d : List ℕ) → slot < 8 → decode_slot (get_or (parts 8 bs) slot d) ≡ slot_at (decode_bank bs) slot
+unfolding decode_bank
+slot_of bs slot d h =
+    let l = length_parts 8 bs in
+    sym (map_at decode_slot (parts 8 bs) slot d empty_slot (omega arith))
+
+-- the parts are the chunks that the library cuts
+pub parts_are : (n : ℕ) (bs : List ℕ) → first_chunks 393 n bs ≡ parts n bs
+unfolding parts
+parts_are zero bs = refl
+parts_are (suc n) bs = ap (λ (ps : List (List ℕ)). take 393 bs ∷ ps) (parts_are n (drop 393 bs))
 
 -- the slot's bytes as the code cuts them
 pub slot_cut : (bs : List ℕ) (slot : ℕ) → slot < 8 → decode_slot (take (393 * slot + 393 - 393 * slot) (drop (393 * slot) bs)) ≡ slot_at (decode_bank bs) slot

@@ -2,7 +2,7 @@
 ghost use Rattle.std.specs.Prelude.{◌≡◌, ◌+◌, ◌*◌, ◌≤◌, ◌<◌, eqb, length, get_or};
 ghost use Rattle.ground.specs.Frames.{tab};
 ghost use Rattle.slots.specs.Slots.{slot_at};
-ghost use Rattle.slot_bytes.specs.Layout.{float_in, svf_in, dc_in, string_in, voice_in, mode_in, batch_in, modal_in, decode_slot, decode_bank};
+ghost use Rattle.slot_bytes.specs.Layout.{float_in, svf_in, dc_in, string_in, voice_in, mode_in, batch_in, modal_in, decode_slot, parts, decode_bank};
 ghost use Rattle.slot_bytes.specs.Words.{words};
 
 use crate::words::{float_at, word_at};
@@ -49,8 +49,7 @@ fn number_at(b: &[u8], k: usize) -> usize
     word_at(b, k) as usize
 }
 
-fn string_at(b: &[u8]) -> String
-    requires { length b.now ≡ 393 }
+fn string_at(b: &[u8; 393]) -> String
     ensures { result ≡ string_in (words b.now) }
 {
     let string = number_at(b, 6);
@@ -79,8 +78,7 @@ fn string_at(b: &[u8]) -> String
     }
 }
 
-fn voice_at(b: &[u8]) -> StringVoice
-    requires { length b.now ≡ 393 }
+fn voice_at(b: &[u8; 393]) -> StringVoice
     ensures { result ≡ voice_in (words b.now) }
 {
     let excitation_filter = svf_at(b, 1);
@@ -122,11 +120,9 @@ fn amplitudes_at(b: &[u8]) -> [f32; 24]
     requires { length b.now ≡ 393 }
     ensures { result ≡ tab 24 (λ i. float_in (words b.now) (26 + i)) }
 {
-    let mut a = [0.0f32; 24];
-    let mut i: usize = 0;
-    while i < 24 {
+    let mut a = [0.0; 24];
+    for i in 0..24 {
         a[i] = float_at(b, 26 + i);
-        i += 1;
     }
     a
 }
@@ -135,12 +131,9 @@ fn filters_at(b: &[u8]) -> [Batch; 6]
     requires { length b.now ≡ 393 }
     ensures { result ≡ tab 6 (λ i. batch_in (words b.now) (50 + 8 * i)) }
 {
-    let first = batch_at(b, 50);
-    let mut a = [first; 6];
-    let mut i: usize = 0;
-    while i < 6 {
+    let mut a = [batch_at(b, 50); 6];
+    for i in 0..6 {
         a[i] = batch_at(b, 50 + 8 * i);
-        i += 1;
     }
     a
 }
@@ -163,18 +156,23 @@ pub fn modal_at(b: &[u8]) -> ModalVoice
     }
 }
 
-fn slot_at(b: &[u8]) -> Slot
-    requires { length b.now ≡ 393 }
+fn slot_at(b: &[u8; 393]) -> Slot
     ensures { result ≡ decode_slot b.now }
 {
-    let kind = word_at(b, 0);
-    let string = voice_at(b);
-    let modal = modal_at(b);
     Slot {
-        kind,
-        string,
-        modal,
+        kind: word_at(b, 0),
+        string: voice_at(b),
+        modal: modal_at(b),
     }
+}
+
+// The bytes of each slot of a bank.
+pub fn slots_of(bytes: &[u8]) -> &[[u8; 393]]
+    ensures parts { length bytes.now ≡ 3144 → result.now ≡ parts 8 bytes.now }
+    ensures eight { length bytes.now ≡ 3144 → length result.now ≡ 8 }
+{
+    let (slots, _) = bytes.as_chunks::<393>();
+    slots
 }
 
 // A slot of a bank.
@@ -182,9 +180,7 @@ pub fn nth(bytes: &[u8], slot: usize) -> Slot
     requires { (slot < 8) × (length bytes.now ≡ 3144) }
     ensures { result ≡ slot_at (decode_bank bytes.now) slot }
 {
-    let from = 393 * slot;
-    let to = from + 393;
-    slot_at(&bytes[from..to])
+    slot_at(&slots_of(bytes)[slot])
 }
 
 // The string's voice of a slot of a bank.
@@ -192,7 +188,5 @@ pub fn string_nth(bytes: &[u8], slot: usize) -> StringVoice
     requires { (slot < 8) × (length bytes.now ≡ 3144) }
     ensures { result ≡ (slot_at (decode_bank bytes.now) slot).string }
 {
-    let base = 393 * slot;
-    let end = base + 393;
-    voice_at(&bytes[base..end])
+    voice_at(&slots_of(bytes)[slot])
 }

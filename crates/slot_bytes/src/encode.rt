@@ -80,10 +80,8 @@ fn put_amplitudes(b: &mut [u8], a: [f32; 24])
     requires { length b.old ≡ 393 }
     ensures { (b.new ≡ put_words 26 (each float_words a) b.old) × All F32 24 a }
 {
-    let mut i: usize = 0;
-    while i < 24 {
+    for i in 0..24 {
         put_float(b, 26 + i, a[i]);
-        i += 1;
     }
 }
 
@@ -91,11 +89,8 @@ fn put_filters(b: &mut [u8], a: [Batch; 6])
     requires { length b.old ≡ 393 }
     ensures { (b.new ≡ put_words 50 (each batch_words a) b.old) × All BatchF32 6 a }
 {
-    let mut i: usize = 0;
-    while i < 6 {
-        let x = a[i];
-        put_batch(b, 50 + 8 * i, x);
-        i += 1;
+    for i in 0..6 {
+        put_batch(b, 50 + 8 * i, a[i]);
     }
 }
 

@@ -1,12 +1,10 @@
 -- 01's number of each reason, and the number and the counts of each answer. Assumes nothing.
-use Rattle.std.specs.Prelude.{ℕ}
+use Rattle.std.specs.Prelude.{ℕ, Result, Ok, Err}
 use Rattle.noise.specs.declared.excitation.Counts.{Counts}
 use Rattle.slots.specs.declared.answers.Knob.{Knob}
 use Rattle.slots.specs.declared.answers.Knob.TheVariants.{F0, Accent, Structure, Brightness, Damping}
 use Rattle.slots.specs.declared.answers.Reason.{Reason}
 use Rattle.slots.specs.declared.answers.Reason.TheVariants as R
-use Rattle.slots.specs.declared.answers.Answer.{Answer}
-use Rattle.slots.specs.declared.answers.Answer.TheVariants.{Drawn, Refusal}
 
 abbrev pub knob_number : Knob → ℕ
 knob_number F0 = 9
@@ -30,11 +28,11 @@ abbrev pub no_counts : Counts
 no_counts = record { burst = 0; dust = 0; dispersion = 0 }
 
 -- an accepted call has number 0
-abbrev pub number_of : Answer → ℕ
-number_of (Drawn c) = 0
-number_of (Refusal r) = reason_number r
+abbrev pub number_of : Result Counts Reason → ℕ
+number_of (Ok c) = 0
+number_of (Err r) = reason_number r
 
 -- a refusal has three zeros
-abbrev pub counts_of : Answer → Counts
-counts_of (Drawn c) = c
-counts_of (Refusal r) = no_counts
+abbrev pub counts_of : Result Counts Reason → Counts
+counts_of (Ok c) = c
+counts_of (Err r) = no_counts

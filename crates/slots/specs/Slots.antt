@@ -1,5 +1,5 @@
 -- A slot: empty, and as it is opened. Assumes nothing.
-use Rattle.std.specs.Prelude.{List, ℕ, zero, suc, length, get_or, set, replicate, Float}
+use Rattle.std.specs.Prelude.{◌≡◌, List, ℕ, zero, suc, length, get_or, set, replicate, Float, Result, Ok, Err}
 use Rattle.ground.specs.F32.{c0}
 use Rattle.utils.specs.Filter.{svf_new, dc_init}
 use Rattle.string_voice.specs.declared.string_voice.StringVoice.{StringVoice}
@@ -7,6 +7,20 @@ use Rattle.string_voice.specs.StringVoice as string
 use Rattle.modal_voice.specs.ModalVoice as modal
 use Rattle.slots.specs.declared.slots.Slot.{Slot}
 use Rattle.slots.specs.declared.slots.Bank.{Bank}
+use Rattle.slots.specs.declared.slots.Kind.{Kind}
+use Rattle.slots.specs.declared.slots.Kind.TheVariants as K
+use Rattle.slots.specs.declared.answers.Reason.{Reason}
+use Rattle.slots.specs.declared.answers.Reason.TheVariants as R
+
+-- the kind that a number names: 1 a string, 2 a modal voice, and another number none
+abbrev pub named : ℕ → Result Kind Reason
+named zero = Err R.Kind
+named (suc zero) = Ok K.String
+named (suc (suc zero)) = Ok K.Modal
+named (suc (suc (suc n))) = Err R.Kind
+
+abbrev pub Names : ℕ → Result Kind Reason → Type 0
+Names n k = k ≡ named n
 
 -- a string whose every number is 0
 unfoldable pub no_string : StringVoice

@@ -1,5 +1,5 @@
 -- 01's table of refusals, as a list of reasons and tests in its order. It is read by the bank and by the ledger. Assumes nothing.
-use Rattle.std.specs.Prelude.{Bool, false, not, ◌&&◌, ◌||◌, cond, List, [], ◌∷◌, ℕ, eqb, leb, ltb, length, Float}
+use Rattle.std.specs.Prelude.{Bool, false, not, ◌&&◌, ◌||◌, cond, List, [], ◌∷◌, ℕ, eqb, leb, ltb, length, Float, Result, Ok, Err}
 use Rattle.std.specs.Float.{binary32}
 use Rattle.std.specs.Float.Ieee.{of_bits, le}
 use Rattle.ground.specs.F32.{c0, c0·5, c1}
@@ -9,8 +9,6 @@ use Rattle.slots.specs.declared.slots.Bank.{Bank}
 use Rattle.slots.specs.declared.answers.Knob.TheVariants as K
 use Rattle.slots.specs.declared.answers.Reason.{Reason}
 use Rattle.slots.specs.declared.answers.Reason.TheVariants as R
-use Rattle.slots.specs.declared.answers.Verdict.{Verdict}
-use Rattle.slots.specs.declared.answers.Verdict.TheVariants.{Accepted, Refused}
 use Rattle.slots.specs.Calls.{Act, opening, reset, render, Bufs}
 
 -- a call: the slot that it names, and what it asks of it
@@ -27,9 +25,9 @@ abbrev pub ◌⇐◌ : Reason → Bool → Check
 r ⇐ b = record { reason = r; applies = b }
 
 -- the first that applies, and only then
-unfoldable pub first : List Check → Verdict
-first [] = Accepted
-first (c ∷ cs) = cond c.applies (Refused c.reason) (first cs)
+unfoldable pub first : List Check → Result (Unit {0}) Reason
+first [] = Ok tt
+first (c ∷ cs) = cond c.applies (Err c.reason) (first cs)
 
 -- ends are within, and a NaN is in no range
 unfoldable pub within : Float → Float → Float → Bool
@@ -88,5 +86,5 @@ unfoldable pub bad : Bank → List Float → Bool
 bad b mem = not (eqb (length mem) 10240) || bad_slots b.slots
 
 -- the whole table: whether number 1 applies, and the kind of the slot named
-unfoldable pub verdict : Bool → ℕ → Call → Verdict
+unfoldable pub verdict : Bool → ℕ → Call → Result (Unit {0}) Reason
 verdict bad kind c = first (R.Memory ⇐ bad ∷ R.NoSlot ⇐ ltb 7 c.slot ∷ checks kind c.act)

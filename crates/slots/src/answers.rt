@@ -4,13 +4,14 @@ ghost use Rattle.slots.specs.Answers.{knob_number, reason_number, number_of, cou
 
 use noise::excitation::Counts;
 
+// A knob, by 01's number.
 #[derive(Clone, Copy)]
 pub enum Knob {
-    F0,
-    Accent,
-    Structure,
-    Brightness,
-    Damping,
+    F0 = 9,
+    Accent = 10,
+    Structure = 11,
+    Brightness = 12,
+    Damping = 13,
 }
 
 #[derive(Clone, Copy)]
@@ -27,43 +28,40 @@ pub enum Reason {
 }
 
 // What the table says of a call.
-#[derive(Clone, Copy)]
-pub enum Verdict {
-    Accepted,
-    Refused(Reason),
-}
+pub type Verdict = Result<(), Reason>;
 
-#[derive(Clone, Copy)]
-pub enum Answer {
-    Drawn(Counts),
-    Refusal(Reason),
-}
+pub type Answer = Result<Counts, Reason>;
 
-pub fn knob_number(knob: Knob) -> u32
-    ensures { result ≡ knob_number knob }
-{
-    match knob {
-        Knob::F0 => 9,
-        Knob::Accent => 10,
-        Knob::Structure => 11,
-        Knob::Brightness => 12,
-        Knob::Damping => 13,
+// The counts of a call that draws nothing.
+pub const NO_COUNTS: Counts = Counts {
+    burst: 0,
+    dust: 0,
+    dispersion: 0,
+};
+
+impl From<Knob> for u32 {
+    ghost from_gives = { λ knob n. n ≡ knob_number knob };
+
+    fn from(knob: Knob) -> u32 {
+        knob as u32
     }
 }
 
-pub fn reason_number(reason: Reason) -> u32
-    ensures { result ≡ reason_number reason }
-{
-    match reason {
-        Reason::Memory => 1,
-        Reason::NoSlot => 2,
-        Reason::Kind => 3,
-        Reason::SampleRate => 4,
-        Reason::Empty => 5,
-        Reason::NoReset => 6,
-        Reason::Lengths => 7,
-        Reason::TooLong => 8,
-        Reason::OutOfRange(knob) => knob_number(knob),
+impl From<Reason> for u32 {
+    ghost from_gives = { λ reason n. n ≡ reason_number reason };
+
+    fn from(reason: Reason) -> u32 {
+        match reason {
+            Reason::Memory => 1,
+            Reason::NoSlot => 2,
+            Reason::Kind => 3,
+            Reason::SampleRate => 4,
+            Reason::Empty => 5,
+            Reason::NoReset => 6,
+            Reason::Lengths => 7,
+            Reason::TooLong => 8,
+            Reason::OutOfRange(knob) => u32::from(knob),
+        }
     }
 }
 
@@ -72,8 +70,8 @@ pub fn number_of(answer: Answer) -> u32
     ensures { result ≡ number_of answer }
 {
     match answer {
-        Answer::Drawn(_) => 0,
-        Answer::Refusal(reason) => reason_number(reason),
+        Ok(_) => 0,
+        Err(reason) => u32::from(reason),
     }
 }
 
@@ -81,12 +79,5 @@ pub fn number_of(answer: Answer) -> u32
 pub fn counts_of(answer: Answer) -> Counts
     ensures { result ≡ counts_of answer }
 {
-    match answer {
-        Answer::Drawn(counts) => counts,
-        Answer::Refusal(_) => Counts {
-            burst: 0,
-            dust: 0,
-            dispersion: 0,
-        },
-    }
+    answer.unwrap_or(NO_COUNTS)
 }

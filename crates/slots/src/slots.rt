@@ -1,14 +1,36 @@
 // The bank's state by value: eight slots, each with a voice of either kind.
 ghost use Rattle.std.specs.Prelude.{◌≡◌, ◌<◌};
 ghost use Rattle.ground.specs.F32.{c0};
-ghost use Rattle.slots.specs.Slots.{no_string, empty_slot, fresh, slot_at, with_slot, opened_on};
+ghost use Rattle.slots.specs.Slots.{Names, no_string, empty_slot, fresh, slot_at, with_slot, opened_on};
 
+use crate::answers::Reason;
 use modal_voice::modal_voice::ModalVoice;
 use string_voice::string_voice::StringVoice;
 use utils::filter::{DcBlocker, Svf};
 use waveguide::string::String;
 
-// A slot: kind 0 is empty, 1 a string, 2 a modal voice.
+// The kind of a voice, by 01's number.
+#[derive(Clone, Copy)]
+pub enum Kind {
+    String = 1,
+    Modal = 2,
+}
+
+impl TryFrom<u32> for Kind {
+    type Error = Reason;
+
+    ghost try_from_gives = { Names };
+
+    fn try_from(kind: u32) -> Result<Kind, Reason> {
+        match kind {
+            1 => Ok(Kind::String),
+            2 => Ok(Kind::Modal),
+            _ => Err(Reason::Kind),
+        }
+    }
+}
+
+// A slot. Its kind is a number, for a bank may hold any: 0 is empty, and the table's numbers 1 and 3 tell which are no `Kind`.
 #[derive(Clone, Copy)]
 pub struct Slot {
     pub kind: u32,
@@ -22,6 +44,7 @@ pub struct Bank {
 }
 
 // A string whose every number is 0.
+#[tactic(auto, unfolding(crate::specs::Slots::no_string))]
 fn no_string() -> StringVoice
     ensures { result ≡ no_string }
 {
@@ -47,26 +70,25 @@ fn no_string() -> StringVoice
     }
 }
 
+#[tactic(auto, unfolding(crate::specs::Slots::empty_slot))]
 fn empty_slot() -> Slot
     ensures { result ≡ empty_slot }
 {
-    let string = no_string();
-    let modal = ModalVoice::new();
     Slot {
         kind: 0,
-        string,
-        modal,
+        string: no_string(),
+        modal: ModalVoice::new(),
     }
 }
 
 impl Bank {
     // Every slot is empty.
+    #[tactic(auto, unfolding(crate::specs::Slots::fresh))]
     pub fn fresh() -> Bank
         ensures { result ≡ fresh }
     {
         let empty = empty_slot();
-        let slots = [empty; 8];
-        Bank { slots }
+        Bank { slots: [empty; 8] }
     }
 }
 
@@ -78,14 +100,11 @@ pub fn slot_at(bank: Bank, slot: usize) -> Slot
 }
 
 // The kind of a slot; where there is no such slot, 0.
+#[tactic(auto, unfolding(crate::specs::Slots::empty_slot))]
 pub fn kind_at(bank: Bank, slot: usize) -> u32
     ensures { result ≡ (slot_at bank slot).kind }
 {
-    if slot < 8 {
-        let x = bank.slots[slot];
-        return x.kind;
-    }
-    0
+    bank.slots.get(slot).map_or(0, |x| x.kind)
 }
 
 pub fn with_slot(bank: Bank, slot: usize, x: Slot) -> Bank
@@ -98,16 +117,14 @@ pub fn with_slot(bank: Bank, slot: usize, x: Slot) -> Bank
 }
 
 // A slot opened with a string, its lines cleared.
+#[tactic(auto, unfolding(string_voice::specs::StringVoice::voice_init))]
 fn opened_string(sample_rate_hz: f32, lines: &mut [f32]) -> Slot
     ensures { (result, lines.new) ≡ opened_on 1 sample_rate_hz lines.old }
 {
-    let voice = StringVoice::new();
-    let string = voice.init(sample_rate_hz, lines);
-    let modal = ModalVoice::new();
     Slot {
-        kind: 1,
-        string,
-        modal,
+        kind: Kind::String as u32,
+        string: StringVoice::new().init(sample_rate_hz, lines),
+        modal: ModalVoice::new(),
     }
 }
 
@@ -116,13 +133,10 @@ fn opened_modal(lines: &mut [f32]) -> Slot
     ensures { (result, lines.new) ≡ opened_on 2 c0 lines.old }
 {
     utils::delay_line::reset(lines);
-    let string = no_string();
-    let voice = ModalVoice::new();
-    let modal = voice.init();
     Slot {
-        kind: 2,
-        string,
-        modal,
+        kind: Kind::Modal as u32,
+        string: no_string(),
+        modal: ModalVoice::new().init(),
     }
 }
 
@@ -131,8 +145,8 @@ pub fn opened(kind: u32, sample_rate_hz: f32, lines: &mut [f32]) -> Slot
     requires { 0 < kind }
     ensures { (result, lines.new) ≡ opened_on kind sample_rate_hz lines.old }
 {
-    if kind == 1 {
-        return opened_string(sample_rate_hz, lines);
+    match Kind::try_from(kind) {
+        Ok(Kind::String) => opened_string(sample_rate_hz, lines),
+        Ok(Kind::Modal) | Err(_) => opened_modal(lines),
     }
-    opened_modal(lines)
 }

@@ -1,144 +1,115 @@
 // 01's table of refusals: the checks of each call, in its order.
-ghost use Rattle.std.specs.Prelude.{◌≡◌, ℕ, eqb, ◌||◌};
+ghost use Rattle.std.specs.Prelude.{◌≡◌, ℕ, [], ◌∷◌};
 ghost use Rattle.slots.specs.Calls.{opening, reset, render};
-ghost use Rattle.slots.specs.Table.{first, within, alike, knob_checks, verdict, bad_slot, bad_slots, bad};
+ghost use Rattle.slots.specs.Table.{first, ◌⇐◌, within, alike, knob_checks, verdict, bad_slot, bad_slots, bad};
 
 use crate::answers::{Knob, Reason, Verdict};
-use crate::slots::{Bank, Slot};
+use crate::slots::{Bank, Kind, Slot};
 use noise::excitation::Knobs;
 
+#[tactic(auto, unfolding(crate::specs::Table::bad_slot))]
 fn bad_slot(x: Slot) -> bool
     ensures { result ≡ bad_slot x }
 {
-    if x.kind > 2 {
-        return true;
-    }
-    if x.string.string.string >= 1024 {
-        return true;
-    }
-    if x.string.string.stretch >= 256 {
-        return true;
-    }
-    x.string.remaining_noise_samples > 1048576
+    let string = x.string.string;
+    x.kind > 2
+        || string.string >= 1024
+        || string.stretch >= 256
+        || x.string.remaining_noise_samples > 1048576
 }
 
 // Whether a slot of the eight is bad.
 fn bad_slots(bank: Bank) -> bool
     ensures { result ≡ bad_slots bank.slots }
 {
-    let mut i: usize = 0;
-    while i < 8 {
-        let x = bank.slots[i];
-        if bad_slot(x) {
-            return true;
-        }
-        i += 1;
-    }
-    false
+    bank.slots.iter().any(|x| bad_slot(*x))
 }
 
 // Whether number 1 applies.
+#[tactic(auto, unfolding(crate::specs::Table::bad))]
 pub fn bad(bank: Bank, lines: &[f32]) -> bool
     ensures { result ≡ bad bank lines.now }
 {
-    if lines.len() != 10240 {
-        return true;
-    }
-    bad_slots(bank)
+    lines.len() != 10240 || bad_slots(bank)
 }
 
 // A NaN is in no range.
+#[tactic(auto, unfolding(crate::specs::Table::within))]
 fn within(lo: f32, hi: f32, x: f32) -> bool
     ensures { result ≡ within lo hi x }
 {
-    if lo <= x {
-        return x <= hi;
-    }
-    false
-}
-
-fn known_kind(kind: u32) -> bool
-    ensures { result ≡ eqb kind 1 || eqb kind 2 }
-{
-    if kind == 1 {
-        return true;
-    }
-    kind == 2
+    lo <= x && x <= hi
 }
 
 // Whether four buffers of these lengths do not differ.
+#[tactic(auto, unfolding(crate::specs::Table::alike))]
 fn alike(temp: &[f32], temp_2: &[f32], out: &[f32], aux: &[f32]) -> bool
     ensures { result ≡ alike (record { temp = temp.now; temp2 = temp_2.now; out = out.now; aux = aux.now }) }
 {
     let n = temp.len();
-    if temp_2.len() != n {
-        return false;
-    }
-    if out.len() != n {
-        return false;
-    }
-    aux.len() == n
+    temp_2.len() == n && out.len() == n && aux.len() == n
+}
+
+// A row of the table.
+#[tactic(auto, unfolding(crate::specs::Table::first))]
+fn refuse_if(applies: bool, reason: Reason) -> Verdict
+    ensures { result ≡ first (reason ⇐ applies ∷ []) }
+{
+    if applies { Err(reason) } else { Ok(()) }
 }
 
 // Numbers 9 to 13.
+#[tactic(auto, unfolding(crate::specs::Table::first))]
 fn check_knobs(k: Knobs) -> Verdict
     ensures { result ≡ first (knob_checks k) }
 {
-    if !within(0.00000095367431640625, 0.5, k.f0) {
-        return Verdict::Refused(Reason::OutOfRange(Knob::F0));
-    }
-    if !within(0.0, 1.0, k.accent) {
-        return Verdict::Refused(Reason::OutOfRange(Knob::Accent));
-    }
-    if !within(0.0, 1.0, k.structure) {
-        return Verdict::Refused(Reason::OutOfRange(Knob::Structure));
-    }
-    if !within(0.0, 1.0, k.brightness) {
-        return Verdict::Refused(Reason::OutOfRange(Knob::Brightness));
-    }
-    if !within(0.0, 1.0, k.damping) {
-        return Verdict::Refused(Reason::OutOfRange(Knob::Damping));
-    }
-    Verdict::Accepted
+    refuse_if(
+        !within(0.00000095367431640625, 0.5, k.f0),
+        Reason::OutOfRange(Knob::F0),
+    )?;
+    refuse_if(
+        !within(0.0, 1.0, k.accent),
+        Reason::OutOfRange(Knob::Accent),
+    )?;
+    refuse_if(
+        !within(0.0, 1.0, k.structure),
+        Reason::OutOfRange(Knob::Structure),
+    )?;
+    refuse_if(
+        !within(0.0, 1.0, k.brightness),
+        Reason::OutOfRange(Knob::Brightness),
+    )?;
+    refuse_if(
+        !within(0.0, 1.0, k.damping),
+        Reason::OutOfRange(Knob::Damping),
+    )
 }
 
 // The checks of each call: whether number 1 applies, the slot named, and its kind where the table asks for it.
+#[tactic(auto, unfolding(crate::specs::Table::verdict, crate::specs::Table::checks, crate::specs::Table::first))]
 pub fn check_open(bad: bool, slot: usize, kind: u32, sample_rate_hz: f32) -> Verdict
     ensures { (n : ℕ) → result ≡ verdict bad n (record { slot = slot; act = opening kind sample_rate_hz }) }
 {
-    if bad {
-        return Verdict::Refused(Reason::Memory);
-    }
-    if slot > 7 {
-        return Verdict::Refused(Reason::NoSlot);
-    }
-    if !known_kind(kind) {
-        return Verdict::Refused(Reason::Kind);
-    }
-    if !within(8000.0, 192000.0, sample_rate_hz) {
-        return Verdict::Refused(Reason::SampleRate);
-    }
-    Verdict::Accepted
+    refuse_if(bad, Reason::Memory)?;
+    refuse_if(slot > 7, Reason::NoSlot)?;
+    let _ = Kind::try_from(kind)?;
+    refuse_if(
+        !within(8000.0, 192000.0, sample_rate_hz),
+        Reason::SampleRate,
+    )
 }
 
+#[tactic(auto, unfolding(crate::specs::Table::verdict, crate::specs::Table::checks, crate::specs::Table::first))]
 pub fn check_reset(bad: bool, slot: usize, kind: u32) -> Verdict
     ensures { result ≡ verdict bad kind (record { slot = slot; act = reset }) }
 {
-    if bad {
-        return Verdict::Refused(Reason::Memory);
-    }
-    if slot > 7 {
-        return Verdict::Refused(Reason::NoSlot);
-    }
-    if kind == 0 {
-        return Verdict::Refused(Reason::Empty);
-    }
-    if kind == 2 {
-        return Verdict::Refused(Reason::NoReset);
-    }
-    Verdict::Accepted
+    refuse_if(bad, Reason::Memory)?;
+    refuse_if(slot > 7, Reason::NoSlot)?;
+    refuse_if(kind == 0, Reason::Empty)?;
+    refuse_if(kind == 2, Reason::NoReset)
 }
 
+#[tactic(auto, unfolding(crate::specs::Table::verdict, crate::specs::Table::checks, crate::specs::Table::first))]
 pub fn check_render(
     bad: bool,
     slot: usize,
@@ -154,20 +125,10 @@ pub fn check_render(
       act = render k (record { temp = temp.now; temp2 = temp_2.now; out = out.now; aux = aux.now });
     }) }
 {
-    if bad {
-        return Verdict::Refused(Reason::Memory);
-    }
-    if slot > 7 {
-        return Verdict::Refused(Reason::NoSlot);
-    }
-    if kind == 0 {
-        return Verdict::Refused(Reason::Empty);
-    }
-    if !alike(temp, temp_2, out, aux) {
-        return Verdict::Refused(Reason::Lengths);
-    }
-    if temp.len() > 4096 {
-        return Verdict::Refused(Reason::TooLong);
-    }
+    refuse_if(bad, Reason::Memory)?;
+    refuse_if(slot > 7, Reason::NoSlot)?;
+    refuse_if(kind == 0, Reason::Empty)?;
+    refuse_if(!alike(temp, temp_2, out, aux), Reason::Lengths)?;
+    refuse_if(temp.len() > 4096, Reason::TooLong)?;
     check_knobs(k)
 }

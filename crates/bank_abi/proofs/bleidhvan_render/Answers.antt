@@ -15,19 +15,19 @@ render-r-requires c =
     let k : Knobs = record { sustain = a.sustain; trigger = a.trigger; accent = a.accent; f0 = a.f0; structure = a.structure; brightness = a.brightness; damping = a.damping } in
     let u : Bufs = record { temp = a.temp.now; temp2 = a.temp_2.now; out = a.out.now; aux = a.aux.now } in
     let n = (slot_at (decode_bank a.bytes.now) a.slot).kind in
-    let t = taken a.bytes.now a.lines.now (record { slot = a.slot; act = render k u }) (decided a.bytes.now a.lines.now (record { slot = a.slot; act = render k u }) c.check_render-verdict.ensures c.bad-bad.ensures c.kind_at-kind.ensures c.in-Accepted.is) in
+    let t = taken a.bytes.now a.lines.now (record { slot = a.slot; act = render k u }) c.check_render.ensures c.bad-bad.ensures c.kind_at-kind.ensures c.in-Ok.is in
     (c.kind_at-kind.ensures t.size, ready n k u t.rest (slot_at (decode_bank a.bytes.now) a.slot) a.lines.now a.slot refl t.sound t.lines t.slot_within, alike_lent n k u t.rest, t.size)
 
-pub returns-in-Refused : goal.returns-in-Refused
-returns-in-Refused c =
+pub returns-in-Err : goal.returns-in-Err
+returns-in-Err c =
     let a = c.args in
     let k : Knobs = record { sustain = a.sustain; trigger = a.trigger; accent = a.accent; f0 = a.f0; structure = a.structure; brightness = a.brightness; damping = a.damping } in
     let u : Bufs = record { temp = a.temp.now; temp2 = a.temp_2.now; out = a.out.now; aux = a.aux.now } in
-    refused (record { bytes = a.bytes.now; word = a.word.now; mem = a.lines.now }) (record { slot = a.slot; act = render k u }) c.in-Refused.reason c.reason_number.ensures (decided a.bytes.now a.lines.now (record { slot = a.slot; act = render k u }) c.check_render-verdict.ensures c.bad-bad.ensures c.kind_at-kind.ensures c.in-Refused.is)
+    refused (record { bytes = a.bytes.now; word = a.word.now; mem = a.lines.now }) (record { slot = a.slot; act = render k u }) c.in-Err.reason c.from.ensures (decided a.bytes.now a.lines.now (record { slot = a.slot; act = render k u }) c.check_render.ensures c.bad-bad.ensures c.kind_at-kind.ensures c.in-Err.is)
 
-pub returns-in-Accepted : goal.returns-in-Accepted
-returns-in-Accepted c =
+pub returns-in-Ok : goal.returns-in-Ok
+returns-in-Ok c =
     let a = c.args in
     let k : Knobs = record { sustain = a.sustain; trigger = a.trigger; accent = a.accent; f0 = a.f0; structure = a.structure; brightness = a.brightness; damping = a.damping } in
     let u : Bufs = record { temp = a.temp.now; temp2 = a.temp_2.now; out = a.out.now; aux = a.aux.now } in
-    accepted (record { bytes = a.bytes.now; word = a.word.now; mem = a.lines.now }) (record { slot = a.slot; act = render k u }) _ (decided a.bytes.now a.lines.now (record { slot = a.slot; act = render k u }) c.check_render-verdict.ensures c.bad-bad.ensures c.kind_at-kind.ensures c.in-Accepted.is) (passes _ c.well_formed.1.1.1.1.1.1.1.1.0.1) c.render-r.ensures
+    accepted (record { bytes = a.bytes.now; word = a.word.now; mem = a.lines.now }) (record { slot = a.slot; act = render k u }) _ (taken a.bytes.now a.lines.now (record { slot = a.slot; act = render k u }) c.check_render.ensures c.bad-bad.ensures c.kind_at-kind.ensures c.in-Ok.is) (passes _ c.well_formed.1.1.1.1.1.1.1.1.0.1) c.render-r.ensures

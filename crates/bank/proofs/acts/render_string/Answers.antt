@@ -1,14 +1,7 @@
 -- `acts::render_string` meets its contract.
 use Rattle.bank.proofs.Moves.{width, string_moved}
-use Rattle.bank.proofs.Places.{good_part}
-use native.Mathlib.Omega.{arith}
 use Prim.Native.Nat.{◌+◌, ◌-◌, ◌*◌}
 use Rattle.bank.proofs.acts.render_string.Goals as goal
-
-pub render-requires : goal.render-requires
-render-requires c =
-    let a = c.args in
-    (good_part a.voice a.lines.now a.slot a.out.now c.requires.0, omega (arith, c.requires.0.short), c.requires.1)
 
 pub returns : goal.returns
 returns c = λ x one same.

@@ -1,24 +1,18 @@
--- `table::bad_slots` meets its contract: the parts that are left to look at give the whole answer.
-use Rattle.bank_abi.proofs.NumberOne.{found, further, none_left}
-use Rattle.slot_bytes.specs.Layout.{decode_bank}
-use lib.ListN.{length-take, length-drop}
-use mathlib.Core.Path.{refl}
-use native.Mathlib.Omega.{arith}
+-- `table::bad_slots` meets its contract: the call's result is the test of some slot's bytes, and so is the definition.
+use Rattle.std.proofs.Common.{rules, tests, ◌≡◌, ◌∙◌, ◌||◌, List, ℕ}
+use Rattle.std.specs.List.{list_any}
+use Rattle.std.proofs.lemmas.Iterator.{YieldsList-from_slice}
+use Rattle.std.proofs.lemmas.Iterator.Search.{any_from_yields_List}
+use Rattle.slots.specs.Table.{bad_slot}
+use Rattle.slot_bytes.specs.Layout.{decode_slot, parts, decode_bank}
+use Rattle.bank_abi.specs.Crossing.{bad_flag}
+use Rattle.bank_abi.proofs.NumberOne.{some_bad}
 use Rattle.bank_abi.proofs.table.bad_slots.Goals as goal
-
-pub loop-i-init : goal.loop-i-init
-loop-i-init c = (omega arith, refl)
-
-pub bad_slot-requires : goal.bad_slot-requires
-bad_slot-requires c = simp (length-take, length-drop) (omega arith)
-
-pub returns-then-bad_slot : goal.returns-then-bad_slot
-unfolding decode_bank
-returns-then-bad_slot c = found c.args.bytes.now c.loop-i.i (omega arith) c.loop-i.invariant.1 c.bad_slot.ensures c.if-bad_slot.true
-
-pub loop-i-preserved : goal.loop-i-preserved
-loop-i-preserved c = (omega arith, further c.args.bytes.now c.loop-i.i (omega arith) c.loop-i.invariant.1 c.bad_slot.ensures c.if-bad_slot.false)
 
 pub returns : goal.returns
 unfolding decode_bank
-returns c = none_left c.args.bytes.now c.loop-i.i (omega arith) c.loop-i.invariant.1
+returns c =
+    let ps = parts 8 c.args.bytes.now in
+    let s = c.slots_of.ensures.parts c.requires in
+    let e = any_from_yields_List (λ p. bad_slot (decode_slot p) || bad_flag p) _ _ c.any.result c.any.ensures.ran (YieldsList-from_slice ps cc) (λ x b q k. search (rules, tests)) in
+    e ∙ some_bad ps

@@ -8,7 +8,4 @@ use mathlib.Core.Path.{◌≡◌}
 use Rattle.slot_bytes.proofs.decode.amplitudes_at.Given as goal
 
 abbrev pub invariant-loop-i : goal.invariant-loop-i
-invariant-loop-i l = (l.i ≤ 24) × (length l.initial.a ≡ 24) × Stored (λ j. float_in (words l.b) (26 + j)) l.initial.a l.i l.a
-
-abbrev pub decreases-loop-i : goal.decreases-loop-i
-decreases-loop-i l = 24 - l.i
+invariant-loop-i l = (length l.initial.a ≡ 24) × Stored (λ j. float_in (words l.b) (26 + j)) l.initial.a l.i l.a

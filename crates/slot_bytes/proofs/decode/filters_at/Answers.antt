@@ -5,10 +5,10 @@ use native.Mathlib.Omega.{arith}
 use Rattle.slot_bytes.proofs.decode.filters_at.Goals as goal
 
 pub loop-i-init : goal.loop-i-init
-loop-i-init c = (omega arith, refl, stored_begin)
+loop-i-init c = (refl, stored_begin)
 
 pub loop-i-preserved : goal.loop-i-preserved
-loop-i-preserved c = let v = c.loop-i.invariant in (omega arith, v.1, stored_turn v.2 (omega arith) c.batch_at.ensures)
+loop-i-preserved c = let v = c.loop-i.invariant in (v.0, stored_turn v.1 (omega arith) c.batch_at.ensures)
 
 pub returns : goal.returns
-returns c = let v = c.loop-i.invariant in stored_end v.2 (omega arith) (sym v.1)
+returns c = let v = c.loop-i.invariant in stored_end v.1 (omega arith) (sym v.0)

@@ -8,7 +8,4 @@ use mathlib.Core.Path.{◌≡◌}
 use Rattle.slot_bytes.proofs.decode.filters_at.Given as goal
 
 abbrev pub invariant-loop-i : goal.invariant-loop-i
-invariant-loop-i l = (l.i ≤ 6) × (length l.initial.a ≡ 6) × Stored (λ j. batch_in (words l.b) (50 + 8 * j)) l.initial.a l.i l.a
-
-abbrev pub decreases-loop-i : goal.decreases-loop-i
-decreases-loop-i l = 6 - l.i
+invariant-loop-i l = (length l.initial.a ≡ 6) × Stored (λ j. batch_in (words l.b) (50 + 8 * j)) l.initial.a l.i l.a

@@ -1,12 +1,14 @@
 -- `decode::nth` meets its contract.
-use Rattle.slot_bytes.proofs.Parts.{slot_cut}
-use lib.ListN.{length-take, length-drop}
-use mathlib.Core.Path.{◌∙◌}
+use mathlib.Core.Path.{ap, ◌∙◌}
+use mathlib.Core.List.{List, []}
+use Prim.Native.Nat.{ℕ}
+use lib.ListN.{get_or, length}
 use native.Mathlib.Omega.{arith}
+use Rattle.slot_bytes.specs.Layout.{decode_slot}
+use Rattle.slot_bytes.proofs.Parts.{slot_of, length_parts}
 use Rattle.slot_bytes.proofs.decode.nth.Goals as goal
 
-pub slot_at-requires : goal.slot_at-requires
-slot_at-requires c = simp (length-take, length-drop) (omega arith)
-
 pub returns : goal.returns
-returns c = c.slot_at.ensures ∙ slot_cut c.args.bytes.now c.args.slot (omega arith)
+returns c =
+    let a = c.args in
+    c.slot_at.ensures ∙ ap (λ (ps : List (List ℕ)). decode_slot (get_or ps a.slot [])) (c.slots_of.ensures.parts c.requires.1) ∙ slot_of a.bytes.now a.slot [] c.requires.0

@@ -4,4 +4,4 @@ use Rattle.slot_bytes.proofs.decode.slot_at.Goals as goal
 
 pub returns : goal.returns
 unfolding decode_slot slot_in
-returns c = λ i. record { kind = c.word_at-kind.ensures.0 i; string = c.voice_at-string.ensures i; modal = c.modal_at-modal.ensures i }
+returns c = λ i. record { kind = c.word_at.ensures.0 i; string = c.voice_at.ensures i; modal = c.modal_at.ensures i }

@@ -1,15 +1,17 @@
 -- `decode::string_nth` meets its contract.
-use Rattle.slot_bytes.specs.Layout.{decode_slot, slot_in}
-use Rattle.slots.specs.declared.slots.Slot.{Slot}
-use Rattle.slot_bytes.proofs.Parts.{slot_cut}
-use mathlib.Core.Path.{◌∙◌, ap}
-use lib.ListN.{length-take, length-drop}
+use mathlib.Core.Path.{ap, ◌∙◌}
+use mathlib.Core.List.{List, []}
+use Prim.Native.Nat.{ℕ}
+use lib.ListN.{get_or, length}
 use native.Mathlib.Omega.{arith}
+use Rattle.slots.specs.declared.slots.Slot.{Slot}
+use Rattle.slot_bytes.specs.Words.{words}
+use Rattle.slot_bytes.specs.Layout.{voice_in, decode_slot, slot_in}
+use Rattle.slot_bytes.proofs.Parts.{slot_of, length_parts}
 use Rattle.slot_bytes.proofs.decode.string_nth.Goals as goal
-
-pub voice_at-requires : goal.voice_at-requires
-voice_at-requires c = simp (length-take, length-drop) (omega arith)
 
 pub returns : goal.returns
 unfolding decode_slot slot_in
-returns c = c.voice_at.ensures ∙ ap (λ (x : Slot). x.string) (slot_cut c.args.bytes.now c.args.slot (omega arith))
+returns c =
+    let a = c.args in
+    c.voice_at.ensures ∙ ap (λ (ps : List (List ℕ)). voice_in (words (get_or ps a.slot []))) (c.slots_of.ensures.parts c.requires.1) ∙ ap (λ (x : Slot). x.string) (slot_of a.bytes.now a.slot [] c.requires.0)

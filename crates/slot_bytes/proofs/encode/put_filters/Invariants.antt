@@ -4,12 +4,8 @@ use lib.ListN.{take}
 use Rattle.ground.specs.Each.{Each}
 use Rattle.slot_bytes.proofs.Little.{Written}
 use lib.ListN.{length}
-use Prim.Native.Nat.{◌-◌, ◌≤◌}
 use mathlib.Core.Path.{◌≡◌}
 use Rattle.slot_bytes.proofs.encode.put_filters.Given as goal
 
 abbrev pub invariant-loop-i : goal.invariant-loop-i
-invariant-loop-i l = (l.i ≤ 6) × (length l.a ≡ 6) × Written batch_words 50 l.a l.initial.b l.i l.b × Each BatchF32 (take l.i l.a)
-
-abbrev pub decreases-loop-i : goal.decreases-loop-i
-decreases-loop-i l = 6 - l.i
+invariant-loop-i l = (length l.a ≡ 6) × Written batch_words 50 l.a l.initial.b l.i l.b × Each BatchF32 (take l.i l.a)

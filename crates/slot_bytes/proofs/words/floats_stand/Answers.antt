@@ -4,10 +4,10 @@ use native.Mathlib.Omega.{arith}
 use Rattle.slot_bytes.proofs.words.floats_stand.Goals as goal
 
 pub loop-i-init : goal.loop-i-init
-loop-i-init c = (omega arith, standing_begin)
+loop-i-init c = standing_begin
 
 pub loop-i-preserved : goal.loop-i-preserved
-loop-i-preserved c = let v = c.loop-i.invariant in (omega arith, standing_turn v.1 (omega arith) c.requires (assumption c) (assumption c))
+loop-i-preserved c = standing_turn c.loop-i.invariant (omega arith) c.requires (assumption c) (assumption c)
 
 pub returns : goal.returns
-returns c = standing_end c.loop-i.invariant.1 (omega arith)
+returns c = standing_end c.loop-i.invariant (omega arith)

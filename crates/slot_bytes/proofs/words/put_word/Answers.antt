@@ -1,17 +1,11 @@
--- `words::put_word` meets its contract: four stores are a word.
-use Rattle.slot_bytes.proofs.Little.{stored}
-use lib.ListN.{length-set}
+-- `words::put_word` meets its contract: four bytes copied over are a word.
+use Rattle.slot_bytes.proofs.Little.{stored_row}
+use mathlib.Core.Path.{ap, ◌∙◌}
+use mathlib.Core.List.{List}
+use lib.ListN.{take}
+use Prim.Native.Nat.{ℕ, ◌*◌, ◌+◌, ◌-◌}
 use native.Mathlib.Omega.{arith}
 use Rattle.slot_bytes.proofs.words.put_word.Goals as goal
 
-pub bounds-b-at-2 : goal.bounds-b-at-2
-bounds-b-at-2 c = simp length-set (omega arith)
-
-pub bounds-b-at-3 : goal.bounds-b-at-3
-bounds-b-at-3 c = simp length-set (omega arith)
-
-pub bounds-b-at-4 : goal.bounds-b-at-4
-bounds-b-at-4 c = simp length-set (omega arith)
-
 pub returns : goal.returns
-returns c = stored c.args.k c.args.v c.args.b.now (omega arith)
+returns c = let a = c.args in stored_row a.k a.v (4 * a.k + 4 - 4 * a.k) a.b.now (omega arith) (c.copy_from_slice.ensures.after ∙ ap (λ (l : List ℕ). take 4 l) c.to_le_bytes.ensures)

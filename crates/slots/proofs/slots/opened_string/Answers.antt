@@ -1,8 +1,0 @@
--- `slots::opened_string` meets its contract.
-use mathlib.Core.Path.{ap}
-use Rattle.string_voice.specs.StringVoice.{voice_init}
-use Rattle.slots.proofs.slots.opened_string.Goals as goal
-
-pub returns : goal.returns
-unfolding voice_init
-returns c = let e = c.init-string.ensures in rw (ap (λ q. q.0) e, ap (λ q. q.1) e, c.new-modal.ensures, c.new-voice.ensures)

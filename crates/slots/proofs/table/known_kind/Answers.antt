@@ -1,9 +1,0 @@
--- `table::known_kind` meets its contract.
-use borrow.Author.Tests.{eq-eqb, ne_eqb}
-use Rattle.slots.proofs.table.known_kind.Goals as goal
-
-pub returns-then-kind-eq1 : goal.returns-then-kind-eq1
-returns-then-kind-eq1 c = simp (eq-eqb _ _ c.if-kind-eq1.true)
-
-pub returns : goal.returns
-returns c = simp (ne_eqb _ _ c.if-kind-eq1.false)
