@@ -6,7 +6,7 @@ use mathlib.Core.Path.{◌≡◌, refl, sym, ◌∙◌, ap, subst}
 use mathlib.Core.List.{List, [], ◌∷◌, ◌++◌, append_assoc, append-nil}
 use Prim.Native.Nat.{ℕ, zero, suc, ◌+◌, ◌*◌, ◌/◌, ◌%◌, ◌<◌, ◌≤◌}
 use native.Mathlib.Omega.{arith}
-use native.Mathlib.Nat.{mul-zero, mul-suc, add_comm}
+use native.Mathlib.Nat.{mul-zero, mul-suc, add_comm, mul-le-mul_left}
 use native.Mathlib.Numerals.{add-one}
 use lib.ListN.{length, get_or, take, drop, set, length-append, length-take, length-drop, take-append-drop, drop_of_length-le}
 use lib.Seq.{set_at, drop-cons, take_at, drop_at, length-take-le, drop-drop, take_all, take-suc, sets, sets-eq}
@@ -182,6 +182,10 @@ module _ {A : Type 0} {f : A → List ℕ} (k : ℕ) {xs : List A} {bs₀ : List
 
   pub written_end : {i : ℕ} {bs : List ℕ} → Written f k xs bs₀ i bs → length xs ≤ i → bs ≡ put_words k (each f xs) bs₀
   written_end {i} {bs} w l = w.is ∙ ap (λ (q : List A). put_words k (each f q) bs₀) (take_all i xs l)
+
+-- of n things with so many words each there is room for the i-th
+pub room : (words i n : ℕ) → i < n → words * i + words ≤ words * n
+room words i n h = let e = mul-suc words i in let l : words * suc i ≤ words * n = mul-le-mul_left words (omega arith) in omega arith
 
 -- ---- what holds of each
 

@@ -5,41 +5,14 @@ ghost use Rattle.slots.specs.Slots.{slot_at};
 ghost use Rattle.slot_bytes.specs.Layout.{float_in, svf_in, dc_in, string_in, voice_in, mode_in, batch_in, modal_in, decode_slot, parts, decode_bank};
 ghost use Rattle.slot_bytes.specs.Words.{words};
 
-use crate::words::{float_at, word_at};
+use crate::record::{Record, read_all};
+use crate::words::word_at;
 use modal_voice::modal_voice::ModalVoice;
 use modes::resonator::{Batch, Resonator, ResonatorSvf};
 use slots::slots::Slot;
 use string_voice::string_voice::StringVoice;
 use utils::filter::{DcBlocker, Svf};
 use waveguide::string::String;
-
-fn svf_at(b: &[u8], k: usize) -> Svf
-    requires { 4 * k + 20 ≤ length b.now }
-    ensures { result ≡ svf_in (words b.now) k }
-{
-    let g = float_at(b, k);
-    let r = float_at(b, k + 1);
-    let h = float_at(b, k + 2);
-    let state_1 = float_at(b, k + 3);
-    let state_2 = float_at(b, k + 4);
-    Svf {
-        g,
-        r,
-        h,
-        state_1,
-        state_2,
-    }
-}
-
-fn dc_at(b: &[u8], k: usize) -> DcBlocker
-    requires { 4 * k + 12 ≤ length b.now }
-    ensures { result ≡ dc_in (words b.now) k }
-{
-    let pole = float_at(b, k);
-    let x = float_at(b, k + 1);
-    let y = float_at(b, k + 2);
-    DcBlocker { pole, x, y }
-}
 
 // A word as a place or a count.
 fn number_at(b: &[u8], k: usize) -> usize
@@ -49,113 +22,51 @@ fn number_at(b: &[u8], k: usize) -> usize
     word_at(b, k) as usize
 }
 
+#[tactic(auto, unfolding(crate::specs::Layout::string_in))]
 fn string_at(b: &[u8; 393]) -> String
     ensures { result ≡ string_in (words b.now) }
 {
-    let string = number_at(b, 6);
-    let stretch = number_at(b, 7);
-    let iir_damping_filter = svf_at(b, 8);
-    let dc_blocker = dc_at(b, 13);
-    let delay = float_at(b, 16);
-    let dispersion_noise = float_at(b, 17);
-    let curved_bridge = float_at(b, 18);
-    let src_phase = float_at(b, 19);
-    let out_sample_0 = float_at(b, 20);
-    let out_sample_1 = float_at(b, 21);
-    let sample_rate_hz = float_at(b, 22);
     String {
-        string,
-        stretch,
-        iir_damping_filter,
-        dc_blocker,
-        delay,
-        dispersion_noise,
-        curved_bridge,
-        src_phase,
-        out_sample_0,
-        out_sample_1,
-        sample_rate_hz,
+        string: number_at(b, 6),
+        stretch: number_at(b, 7),
+        iir_damping_filter: Svf::read(b, 8),
+        dc_blocker: DcBlocker::read(b, 13),
+        delay: f32::read(b, 16),
+        dispersion_noise: f32::read(b, 17),
+        curved_bridge: f32::read(b, 18),
+        src_phase: f32::read(b, 19),
+        out_sample_0: f32::read(b, 20),
+        out_sample_1: f32::read(b, 21),
+        sample_rate_hz: f32::read(b, 22),
     }
 }
 
+#[tactic(auto, unfolding(crate::specs::Layout::voice_in))]
 fn voice_at(b: &[u8; 393]) -> StringVoice
     ensures { result ≡ voice_in (words b.now) }
 {
-    let excitation_filter = svf_at(b, 1);
-    let string = string_at(b);
-    let remaining_noise_samples = number_at(b, 23);
     StringVoice {
-        excitation_filter,
-        string,
-        remaining_noise_samples,
+        excitation_filter: Svf::read(b, 1),
+        string: string_at(b),
+        remaining_noise_samples: number_at(b, 23),
     }
-}
-
-fn mode_at(b: &[u8], k: usize) -> ResonatorSvf
-    requires { 4 * k + 8 ≤ length b.now }
-    ensures { result ≡ mode_in (words b.now) k }
-{
-    let state_1 = float_at(b, k);
-    let state_2 = float_at(b, k + 1);
-    ResonatorSvf { state_1, state_2 }
-}
-
-fn batch_at(b: &[u8], k: usize) -> Batch
-    requires { 4 * k + 32 ≤ length b.now }
-    ensures { result ≡ batch_in (words b.now) k }
-{
-    let mode_0 = mode_at(b, k);
-    let mode_1 = mode_at(b, k + 2);
-    let mode_2 = mode_at(b, k + 4);
-    let mode_3 = mode_at(b, k + 6);
-    Batch {
-        mode_0,
-        mode_1,
-        mode_2,
-        mode_3,
-    }
-}
-
-fn amplitudes_at(b: &[u8]) -> [f32; 24]
-    requires { length b.now ≡ 393 }
-    ensures { result ≡ tab 24 (λ i. float_in (words b.now) (26 + i)) }
-{
-    let mut a = [0.0; 24];
-    for i in 0..24 {
-        a[i] = float_at(b, 26 + i);
-    }
-    a
-}
-
-fn filters_at(b: &[u8]) -> [Batch; 6]
-    requires { length b.now ≡ 393 }
-    ensures { result ≡ tab 6 (λ i. batch_in (words b.now) (50 + 8 * i)) }
-{
-    let mut a = [batch_at(b, 50); 6];
-    for i in 0..6 {
-        a[i] = batch_at(b, 50 + 8 * i);
-    }
-    a
 }
 
 pub fn modal_at(b: &[u8]) -> ModalVoice
     requires { length b.now ≡ 393 }
     ensures { result ≡ modal_in (words b.now) (eqb (get_or b.now 392 0) 1) }
 {
-    let excitation_filter = mode_at(b, 24);
-    let mode_amplitude = amplitudes_at(b);
-    let mode_filters = filters_at(b);
-    let resonator = Resonator {
-        mode_amplitude,
-        mode_filters,
-    };
     ModalVoice {
-        excitation_filter,
-        resonator,
+        excitation_filter: ResonatorSvf::read(b, 24),
+        resonator: Resonator {
+            mode_amplitude: read_all::<f32, 24>(b, 26),
+            mode_filters: read_all::<Batch, 6>(b, 50),
+        },
         held: b[392] == 1,
     }
 }
 
+#[tactic(auto, unfolding(crate::specs::Layout::decode_slot, crate::specs::Layout::slot_in))]
 fn slot_at(b: &[u8; 393]) -> Slot
     ensures { result ≡ decode_slot b.now }
 {

@@ -22,13 +22,6 @@ pub fn put_word(b: &mut [u8], k: usize, v: usize)
     b[at..at + 4].copy_from_slice(&v.to_le_bytes()[..4]);
 }
 
-pub fn float_at(b: &[u8], k: usize) -> f32
-    requires { 4 * k + 4 ≤ length b.now }
-    ensures { result ≡ float_in (words b.now) k }
-{
-    ground::bits::float_of(word_at(b, k))
-}
-
 // Whether the k-th float, written again, would change no byte: it is so of every float but a NaN.
 fn float_stands(b: &[u8], k: usize) -> bool
     requires { 4 * k + 4 ≤ length b.now }
@@ -47,12 +40,4 @@ pub fn floats_stand(b: &[u8], k: usize, n: usize) -> bool
         stand = stand & float_stands(b, k + i);
     }
     stand
-}
-
-pub fn put_float(b: &mut [u8], k: usize, x: f32)
-    requires { 4 * k + 4 ≤ length b.old }
-    ensures { (b.new ≡ put_words k (float_words x) b.old) × F32 x }
-{
-    let w = ground::bits::pattern_of(x);
-    put_word(b, k, w as usize);
 }

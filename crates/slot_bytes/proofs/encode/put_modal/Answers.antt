@@ -3,4 +3,4 @@ use Rattle.slot_bytes.proofs.Little.{modal_wrote}
 use Rattle.slot_bytes.proofs.encode.put_modal.Goals as goal
 
 pub returns : goal.returns
-returns c = let a = c.args in (modal_wrote a.m a.b.now c.put_mode.ensures.0 c.put_amplitudes.ensures.0 c.put_filters.ensures.0 c.requires c.put_amplitudes.ensures.1.many, (c.put_mode.ensures.1, c.put_amplitudes.ensures.1, c.put_filters.ensures.1))
+returns c = let a = c.args in (modal_wrote a.m a.b.now c.write.ensures.0 c.write_all.ensures.0 c.write_all-2.ensures.0 c.requires c.write_all.ensures.1.many, (c.write.ensures.1, c.write_all.ensures.1, c.write_all-2.ensures.1))

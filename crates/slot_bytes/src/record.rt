@@ -1,0 +1,211 @@
+// A thing that stands in bytes as words, from the k-th on, and many of one kind in a row.
+ghost use Rattle.std.specs.Prelude.{◌≡◌, ℕ, List, ◌++◌, ◌+◌, ◌*◌, ◌≤◌, ◌<◌, length};
+ghost use Rattle.ground.specs.Frames.{tab};
+ghost use Rattle.slot_bytes.specs.Words.{words, put_words, each};
+ghost use Rattle.slot_bytes.specs.Layout.{F32, SvfF32, DcF32, ModeF32, BatchF32, All, float_in, svf_in, dc_in, mode_in, batch_in, float_words, svf_words, dc_words, mode_words, batch_words};
+ghost use Rattle.slot_bytes.specs.Back.{float_sized, svf_sized, dc_sized, mode_sized, batch_sized, float_back, svf_back, dc_back, mode_back, batch_back};
+
+use crate::words::{put_word, word_at};
+use modes::resonator::{Batch, ResonatorSvf};
+use utils::filter::{DcBlocker, Svf};
+
+pub trait Record: Copy {
+    // How many words it has.
+    const WORDS: usize;
+
+    ghost WORDS: { ℕ };
+
+    // What the words from the k-th on are read as.
+    ghost from_words: { List ℕ → ℕ → Self };
+
+    ghost to_words: { Self → List ℕ };
+
+    // Each float of it is an f32.
+    ghost is_f32: { Self → Type 0 };
+
+    fn read(b: &[u8], k: usize) -> Self
+        requires { 4 * (k + WORDS) ≤ length b.now }
+        ensures { result ≡ from_words (words b.now) k };
+
+    fn write(self, b: &mut [u8], k: usize)
+        requires { 4 * (k + WORDS) ≤ length b.old }
+        ensures { (b.new ≡ put_words k (to_words self) b.old) × is_f32 self };
+
+    ghost sized: { (x : Self) → length (to_words x) ≡ WORDS };
+
+    // What is read of the words written is the thing again.
+    ghost undone: { (x : Self) (ws : List ℕ) → is_f32 x → from_words (to_words x ++ ws) 0 ≡ x };
+}
+
+impl Record for f32 {
+    const WORDS: usize = 1;
+
+    ghost WORDS = { 1 };
+
+    ghost from_words = { float_in };
+
+    ghost to_words = { float_words };
+
+    ghost is_f32 = { F32 };
+
+    fn read(b: &[u8], k: usize) -> f32 {
+        ground::bits::float_of(word_at(b, k))
+    }
+
+    fn write(self, b: &mut [u8], k: usize) {
+        put_word(b, k, ground::bits::pattern_of(self) as usize);
+    }
+
+    ghost sized = { float_sized };
+
+    ghost undone = { float_back };
+}
+
+impl Record for Svf {
+    const WORDS: usize = 5;
+
+    ghost WORDS = { 5 };
+
+    ghost from_words = { svf_in };
+
+    ghost to_words = { svf_words };
+
+    ghost is_f32 = { SvfF32 };
+
+    #[tactic(auto, unfolding(crate::specs::Layout::svf_in))]
+    fn read(b: &[u8], k: usize) -> Svf {
+        Svf {
+            g: f32::read(b, k),
+            r: f32::read(b, k + 1),
+            h: f32::read(b, k + 2),
+            state_1: f32::read(b, k + 3),
+            state_2: f32::read(b, k + 4),
+        }
+    }
+
+    fn write(self, b: &mut [u8], k: usize) {
+        self.g.write(b, k);
+        self.r.write(b, k + 1);
+        self.h.write(b, k + 2);
+        self.state_1.write(b, k + 3);
+        self.state_2.write(b, k + 4);
+    }
+
+    ghost sized = { svf_sized };
+
+    ghost undone = { svf_back };
+}
+
+impl Record for DcBlocker {
+    const WORDS: usize = 3;
+
+    ghost WORDS = { 3 };
+
+    ghost from_words = { dc_in };
+
+    ghost to_words = { dc_words };
+
+    ghost is_f32 = { DcF32 };
+
+    #[tactic(auto, unfolding(crate::specs::Layout::dc_in))]
+    fn read(b: &[u8], k: usize) -> DcBlocker {
+        DcBlocker {
+            pole: f32::read(b, k),
+            x: f32::read(b, k + 1),
+            y: f32::read(b, k + 2),
+        }
+    }
+
+    fn write(self, b: &mut [u8], k: usize) {
+        self.pole.write(b, k);
+        self.x.write(b, k + 1);
+        self.y.write(b, k + 2);
+    }
+
+    ghost sized = { dc_sized };
+
+    ghost undone = { dc_back };
+}
+
+impl Record for ResonatorSvf {
+    const WORDS: usize = 2;
+
+    ghost WORDS = { 2 };
+
+    ghost from_words = { mode_in };
+
+    ghost to_words = { mode_words };
+
+    ghost is_f32 = { ModeF32 };
+
+    #[tactic(auto, unfolding(crate::specs::Layout::mode_in))]
+    fn read(b: &[u8], k: usize) -> ResonatorSvf {
+        ResonatorSvf {
+            state_1: f32::read(b, k),
+            state_2: f32::read(b, k + 1),
+        }
+    }
+
+    fn write(self, b: &mut [u8], k: usize) {
+        self.state_1.write(b, k);
+        self.state_2.write(b, k + 1);
+    }
+
+    ghost sized = { mode_sized };
+
+    ghost undone = { mode_back };
+}
+
+impl Record for Batch {
+    const WORDS: usize = 8;
+
+    ghost WORDS = { 8 };
+
+    ghost from_words = { batch_in };
+
+    ghost to_words = { batch_words };
+
+    ghost is_f32 = { BatchF32 };
+
+    #[tactic(auto, unfolding(crate::specs::Layout::batch_in))]
+    fn read(b: &[u8], k: usize) -> Batch {
+        Batch {
+            mode_0: ResonatorSvf::read(b, k),
+            mode_1: ResonatorSvf::read(b, k + 2),
+            mode_2: ResonatorSvf::read(b, k + 4),
+            mode_3: ResonatorSvf::read(b, k + 6),
+        }
+    }
+
+    fn write(self, b: &mut [u8], k: usize) {
+        self.mode_0.write(b, k);
+        self.mode_1.write(b, k + 2);
+        self.mode_2.write(b, k + 4);
+        self.mode_3.write(b, k + 6);
+    }
+
+    ghost sized = { batch_sized };
+
+    ghost undone = { batch_back };
+}
+
+pub fn read_all<T: Record, const N: usize>(b: &[u8], k: usize) -> [T; N]
+    requires some { 0 < N }
+    requires room { 4 * (k + T.WORDS * N) ≤ length b.now }
+    ensures { result ≡ tab N (λ i. T.from_words (words b.now) (k + T.WORDS * i)) }
+{
+    let mut a = [T::read(b, k); N];
+    for i in 0..N {
+        a[i] = T::read(b, k + T::WORDS * i);
+    }
+    a
+}
+
+pub fn write_all<T: Record, const N: usize>(a: [T; N], b: &mut [u8], k: usize)
+    requires { 4 * (k + T.WORDS * N) ≤ length b.old }
+    ensures { (b.new ≡ put_words k (each T.to_words a) b.old) × All T.is_f32 N a }
+{
+    for i in 0..N {
+        a[i].write(b, k + T::WORDS * i);
+    }
+}
