@@ -27,7 +27,6 @@ use Rattle.modes.specs.Resonator.{mode_of, tick_of, low_step, low_block}
 use Rattle.modes.specs.OnePass.{modes_for, states_of, filters_of, frame_of, one_pass}
 use Rattle.modal_voice.specs.ModalVoice.{cutoff_for, resonance_for, excitation, held_after, excitation_words, excitation_counts, render_of}
 use Rattle.modal_voice.specs.OneLoop.{Framed, frames_of, Sung, sung_of, has_same_memory, memory, pass_of, Stays, ahead_of}
-use Rattle.modes.proofs.Frame.{frame_sizes}
 use Rattle.modes.proofs.OnePass.{processed}
 use Rattle.modal_voice.proofs.Halves.{excited, sounded, rendered}
 
@@ -87,15 +86,14 @@ module _ (k : Mode) (s : ResonatorSvf) (temp temp2 aux : List Float) where
   filled = (scan (fill (low_of k)) s temp temp2).1
 
   -- i frames of n are done
-  pub record Passing (n : ℕ) (i : ℕ) (ts us : List Float) (filter : ResonatorSvf) (o : Ahead) : Type 0 where
+  pub record Passing (n : ℕ) (i : ℕ) (ts us : List Float) (o : Ahead) : Type 0 where
     pub lead : Lead (low_of k) nan s temp temp2 i ts (memory o, o.x)
     pub mixed : Scan add_step tt filled aux i tt us
     pub stays : Stays k o (get_or temp i nan)
     pub block : Block temp temp2 aux filled n
-    pub kept : n ≤ i → filter ≡ memory o
 
   pub passing_begin : {o : Ahead} → length temp2 ≡ length temp → length aux ≡ length temp → length temp * 4 < 2 ^ 63
-      → o ≡ ahead_of k s temp 0 → Stays k o (get_or temp 0 nan) → Passing (length temp) 0 temp2 aux s o
+      → o ≡ ahead_of k s temp 0 → Stays k o (get_or temp 0 nan) → Passing (length temp) 0 temp2 aux o
   passing_begin h2 ha b e t =
       record {
         lead = lead_begin (ahead_step k s temp 0 e) (ahead_end k s temp 0 e);
@@ -108,16 +106,15 @@ module _ (k : Mode) (s : ResonatorSvf) (temp temp2 aux : List Float) where
           filtered_size = length_scan (fill (low_of k)) s temp temp2 ∙ h2;
           small = b;
         };
-        kept = λ l. sym (ahead_end k s temp 0 e l);
       }
 
   -- what is put into temp_2 at the frame i
-  pub passing_puts : {n i : ℕ} {ts us : List Float} {filter : ResonatorSvf} {o : Ahead} → Passing n i ts us filter o → i < n → o.x ≡ get_or filled i nan
+  pub passing_puts : {n i : ℕ} {ts us : List Float} {o : Ahead} → Passing n i ts us o → i < n → o.x ≡ get_or filled i nan
   passing_puts v l = let z = v.block in lead_puts nan v.lead (omega (arith, z, l))
 
-  pub passing_turn : {n i : ℕ} {ts us : List Float} {filter : ResonatorSvf} {o p : Ahead} → Passing n i ts us filter o → i < n
+  pub passing_turn : {n i : ℕ} {ts us : List Float} {o p : Ahead} → Passing n i ts us o → i < n
       → p ≡ ahead_of k (memory o) temp (i + 1) → Stays k p (get_or temp (i + 1) nan)
-      → Passing n (i + 1) (set ts i o.x) (set us i (get_or us i nan ⊕ o.x)) (memory p) p
+      → Passing n (i + 1) (set ts i o.x) (set us i (get_or us i nan ⊕ o.x)) p
   passing_turn {i = i} {us = us} {o = o} v l e t =
       let z = v.block in
       let within : i < min (length temp) (length temp2) = omega (arith, z, l) in
@@ -126,79 +123,73 @@ module _ (k : Mode) (s : ResonatorSvf) (temp temp2 aux : List Float) where
         mixed = scan_turn nan nan v.mixed (omega (arith, z, l)) (ap (λ (x : Float). (tt, get_or us i nan ⊕ x)) (passing_puts v l));
         stays = t;
         block = z;
-        kept = λ h. refl;
       }
 
-  pub passing_end : {n i : ℕ} {ts us : List Float} {filter : ResonatorSvf} {o : Ahead} → Passing n i ts us filter o → n ≤ i
-      → (◌≡◌ {A = ResonatorSvf × List Float} (filter, ts) (low_block k s temp temp2)) × (us ≡ added ts aux)
+  pub passing_end : {n i : ℕ} {ts us : List Float} {o : Ahead} {f : ResonatorSvf} → Passing n i ts us o → n ≤ i → f ≡ memory o
+      → (◌≡◌ {A = ResonatorSvf × List Float} (f, ts) (low_block k s temp temp2)) × (us ≡ added ts aux)
   unfolding low_block
-  passing_end {ts = ts} v l =
+  passing_end {ts = ts} v l h =
       let z = v.block in
-      let e = ap (λ (f : ResonatorSvf). (f, ts)) (v.kept l) ∙ lead_end v.lead (omega (arith, z.all, l)) in
+      let e = ap (λ (f : ResonatorSvf). (f, ts)) h ∙ lead_end v.lead (omega (arith, z.all, l)) in
       (e, ap (λ (q : Unit {0} × List Float). q.1) (scan_end v.mixed (omega (arith, z, l))) ∙ ap (λ (q : ResonatorSvf × List Float). added q.1 aux) (sym e))
 
--- ---- the same through all modes; m is what the modes' coefficients are, one and two what they keep before it
-module _ (k : Mode) (s : ResonatorSvf) (m : Modes) (one two temp temp2 out aux : List Float) where
-  pub record Underway (n : ℕ) (i : ℕ) (ts os us ones twos : List Float) (filter : ResonatorSvf) (o : Ahead) : Type 0 where
-    pub passing : Passing k s temp temp2 aux n i ts us filter o
-    pub sung : Scan (frame_of m) (one, two) (filled k s temp temp2 aux) out i (ones, twos) os
-    pub one_size : length ones ≡ 24
-    pub two_size : length twos ≡ 24
+-- ---- the same through all modes; m is what the modes' coefficients are, states what they keep before it
+module _ (k : Mode) (s : ResonatorSvf) (m : Modes) (states : States) (temp temp2 out aux : List Float) where
+  pub record Underway (n : ℕ) (i : ℕ) (ts os us : List Float) (now : States) (o : Ahead) : Type 0 where
+    pub passing : Passing k s temp temp2 aux n i ts us o
+    pub sung : Scan (frame_of m) states (filled k s temp temp2 aux) out i now os
     pub out_size : length out ≡ n
 
-  pub underway_begin : {o : Ahead} → Alike temp temp2 out aux → length temp * 4 < 2 ^ 63 → length one ≡ 24 → length two ≡ 24
-      → o ≡ ahead_of k s temp 0 → Stays k o (get_or temp 0 nan) → Underway (length temp) 0 temp2 out aux one two s o
-  underway_begin a b h1 h2 e t =
-      record { passing = passing_begin k s temp temp2 aux a.temp2_is a.aux_is b e t; sung = frames_begin; one_size = h1; two_size = h2; out_size = a.out_is }
+  pub underway_begin : {o : Ahead} → Alike temp temp2 out aux → length temp * 4 < 2 ^ 63
+      → o ≡ ahead_of k s temp 0 → Stays k o (get_or temp 0 nan) → Underway (length temp) 0 temp2 out aux states o
+  underway_begin a b e t =
+      record { passing = passing_begin k s temp temp2 aux a.temp2_is a.aux_is b e t; sung = frames_begin; out_size = a.out_is }
 
-  pub underway_turn : {n i : ℕ} {ts os us ones twos ones' twos' : List Float} {filter : ResonatorSvf} {o p : Ahead} {y : Float}
-      → Underway n i ts os us ones twos filter o → i < n
+  pub underway_turn : {n i : ℕ} {ts os us : List Float} {now now' : States} {o p : Ahead} {y : Float}
+      → Underway n i ts os us now o → i < n
       → p ≡ ahead_of k (memory o) temp (i + 1) → Stays k p (get_or temp (i + 1) nan)
-      → ◌≡◌ {A = (List Float × List Float) × Float} ((ones', twos'), y) (frame_of m (ones, twos) o.x (get_or os i nan))
-      → Underway n (i + 1) (set ts i o.x) (set os i y) (set us i (get_or us i nan ⊕ o.x)) ones' twos' (memory p) p
-  underway_turn {i = i} {os = os} {ones = ones} {twos = twos} {o = o} v l e t f =
+      → ◌≡◌ {A = States × Float} (now', y) (frame_of m now o.x (get_or os i nan))
+      → Underway n (i + 1) (set ts i o.x) (set os i y) (set us i (get_or us i nan ⊕ o.x)) now' p
+  underway_turn {i = i} {os = os} {now = now} {o = o} v l e t f =
       let z = v.passing.block in
       let x = passing_puts k s temp temp2 aux v.passing l in
-      let sizes = frame_sizes m ones twos o.x (get_or os i nan) f in
       record {
         passing = passing_turn k s temp temp2 aux v.passing l e t;
-        sung = scan_turn nan nan v.sung (omega (arith, z, v.out_size, l)) (f ∙ ap (λ (x : Float). frame_of m (ones, twos) x (get_or os i nan)) x);
-        one_size = sizes.0;
-        two_size = sizes.1;
+        sung = scan_turn nan nan v.sung (omega (arith, z, v.out_size, l)) (f ∙ ap (λ (x : Float). frame_of m now x (get_or os i nan)) x);
         out_size = v.out_size;
       }
 
-  pub underway_end : {n i : ℕ} {ts os us ones twos : List Float} {filter : ResonatorSvf} {o : Ahead} → Underway n i ts os us ones twos filter o → n ≤ i
-      → ◌≡◌ {A = Sung} (record { filter = filter; state_1 = ones; state_2 = twos; temp2 = ts; out = os; aux = us }) (sung_of k s m one two temp temp2 out aux)
+  pub underway_end : {n i : ℕ} {ts os us : List Float} {now : States} {o : Ahead} {f : ResonatorSvf} → Underway n i ts os us now o → n ≤ i → f ≡ memory o
+      → ◌≡◌ {A = Sung} (record { filter = f; states = now; temp2 = ts; out = os; aux = us }) (sung_of k s m states temp temp2 out aux)
   unfolding sung_of low_block
-  underway_end v l =
+  underway_end v l h =
       let z = v.passing.block in
-      let e = passing_end k s temp temp2 aux v.passing l in
+      let e = passing_end k s temp temp2 aux v.passing l h in
       let ea = e.1 ∙ ap (λ (q : ResonatorSvf × List Float). added q.1 aux) e.0 in
       let eo = scan_end v.sung (omega (arith, z, v.out_size, l)) in
-      λ j. record { filter = (e.0 j).0; state_1 = (eo j).0.0; state_2 = (eo j).0.1; temp2 = (e.0 j).1; out = (eo j).1; aux = ea j }
+      λ j. record { filter = (e.0 j).0; states = (eo j).0; temp2 = (e.0 j).1; out = (eo j).1; aux = ea j }
 
   -- the filter over all frames first, then all modes
-  pub sung_apart : {z : ResonatorSvf} {ts os us ones twos : List Float} → ◌≡◌ {A = ResonatorSvf × List Float} (z, ts) (low_block k s temp temp2) → us ≡ added ts aux
-      → ◌≡◌ {A = (List Float × List Float) × List Float} ((ones, twos), os) (scan (frame_of m) (one, two) ts out)
-      → ◌≡◌ {A = Sung} (record { filter = z; state_1 = ones; state_2 = twos; temp2 = ts; out = os; aux = us }) (sung_of k s m one two temp temp2 out aux)
+  pub sung_apart : {z : ResonatorSvf} {ts os us : List Float} {now : States} → ◌≡◌ {A = ResonatorSvf × List Float} (z, ts) (low_block k s temp temp2) → us ≡ added ts aux
+      → ◌≡◌ {A = States × List Float} (now, os) (scan (frame_of m) states ts out)
+      → ◌≡◌ {A = Sung} (record { filter = z; states = now; temp2 = ts; out = os; aux = us }) (sung_of k s m states temp temp2 out aux)
   unfolding sung_of
   sung_apart ef ea eo =
-      let fo = eo ∙ ap (λ (q : ResonatorSvf × List Float). scan (frame_of m) (one, two) q.1 out) ef in
+      let fo = eo ∙ ap (λ (q : ResonatorSvf × List Float). scan (frame_of m) states q.1 out) ef in
       let fa = ea ∙ ap (λ (q : ResonatorSvf × List Float). added q.1 aux) ef in
-      λ j. record { filter = (ef j).0; state_1 = (fo j).0.0; state_2 = (fo j).0.1; temp2 = (ef j).1; out = (fo j).1; aux = fa j }
+      λ j. record { filter = (ef j).0; states = (fo j).0; temp2 = (ef j).1; out = (fo j).1; aux = fa j }
 
 -- the same with what the modes keep in batches
 pub all_frames : (k : Mode) (s : ResonatorSvf) (m : Modes) (fs : List Batch) (temp temp2 out aux : List Float)
-    {z : ResonatorSvf} {u : States} {one two temp2' out' aux' : List Float} {gs : List Batch}
+    {z : ResonatorSvf} {u now : States} {temp2' out' aux' : List Float} {gs : List Batch}
     → u ≡ states_of fs
-    → ◌≡◌ {A = Sung} (record { filter = z; state_1 = one; state_2 = two; temp2 = temp2'; out = out'; aux = aux' }) (sung_of k s m u.state_1 u.state_2 temp temp2 out aux)
-    → gs ≡ filters_of one two
+    → ◌≡◌ {A = Sung} (record { filter = z; states = now; temp2 = temp2'; out = out'; aux = aux' }) (sung_of k s m u temp temp2 out aux)
+    → gs ≡ filters_of now
     → ◌≡◌ {A = Framed} (record { filter = z; mode_filters = gs; temp2 = temp2'; out = out'; aux = aux' }) (frames_of k s m fs temp temp2 out aux)
 unfolding frames_of one_pass sung_of
 all_frames k s m fs temp temp2 out aux es eg ef =
-    let e = eg ∙ ap (λ (v : States). sung_of k s m v.state_1 v.state_2 temp temp2 out aux) es in
-    let hf = ef ∙ ap (λ (q : Sung). filters_of q.state_1 q.state_2) e in
+    let e = eg ∙ ap (λ (v : States). sung_of k s m v temp temp2 out aux) es in
+    let hf = ef ∙ ap (λ (q : Sung). filters_of q.states) e in
     λ j. record { filter = (e j).filter; mode_filters = hf j; temp2 = (e j).temp2; out = (e j).out; aux = (e j).aux }
 
 -- ---- what the loop leaves, as the halves leave it

@@ -1,19 +1,19 @@
 -- A block's frames part by part: a part of each buffer is lent, and put back between what stands before and behind it. Assumes nothing.
-use mathlib.Core.Path.{◌≡◌, refl, sym, ◌∙◌, ap}
+use mathlib.Core.Path.{◌≡◌, refl, sym, ◌∙◌, ap, subst}
 use mathlib.Core.List.{List, [], ◌∷◌, ◌++◌, append_assoc}
 use Prim.Native.Nat.{ℕ, zero, suc, ◌+◌, ◌-◌, ◌*◌, ◌^◌, ◌≤◌, ◌<◌}
 use native.Mathlib.Omega.{arith}
 use lib.ListN.{length, take, drop, length-append, length-take, length-drop, take-append-drop, drop_of_length-le}
 use lib.Ieee.{Float}
 use Rattle.ground.specs.Frames.{scan}
-use Rattle.ground.proofs.Frames.{length_scan, scan_keeps}
+use Rattle.ground.proofs.Frames.{length_scan}
 use Rattle.noise.specs.Excitation.{Alike, add_step, added}
 use Rattle.modes.specs.declared.resonator.ResonatorSvf.{ResonatorSvf}
 use Rattle.modes.specs.declared.resonator.Mode.{Mode}
 use Rattle.modes.specs.declared.resonator.Modes.{Modes}
+use Rattle.modes.specs.declared.resonator.States.{States}
 use Rattle.modes.specs.Resonator.{low_step, low_block}
 use Rattle.modes.specs.OnePass.{frame_of}
-use Rattle.modes.proofs.Frame.{frame_sizes}
 use Rattle.modal_voice.specs.OneLoop.{Sung, sung_of}
 
 -- ---- a loop over two lists one after the other
@@ -86,63 +86,55 @@ module _ (k : Mode) (m : Modes) where
   -- what is done, and what the frames behind it come to
   abbrev joined : List Float → List Float → List Float → Sung → Sung
   joined ts os us q =
-      record { filter = q.filter; state_1 = q.state_1; state_2 = q.state_2; temp2 = ts ++ q.temp2; out = os ++ q.out; aux = us ++ q.aux }
+      record { filter = q.filter; states = q.states; temp2 = ts ++ q.temp2; out = os ++ q.out; aux = us ++ q.aux }
 
   -- a block in two parts
-  sung_append : (s : ResonatorSvf) (one two xs xs' ts ts' os os' us us' : List Float) → length xs ≡ length ts → length ts ≡ length os → length ts ≡ length us
-      → sung_of k s m one two (xs ++ xs') (ts ++ ts') (os ++ os') (us ++ us')
-      ≡ (let p = sung_of k s m one two xs ts os us in joined p.temp2 p.out p.aux (sung_of k p.filter m p.state_1 p.state_2 xs' ts' os' us'))
+  sung_append : (s : ResonatorSvf) (states : States) (xs xs' ts ts' os os' us us' : List Float) → length xs ≡ length ts → length ts ≡ length os → length ts ≡ length us
+      → sung_of k s m states (xs ++ xs') (ts ++ ts') (os ++ os') (us ++ us')
+      ≡ (let p = sung_of k s m states xs ts os us in joined p.temp2 p.out p.aux (sung_of k p.filter m p.states xs' ts' os' us'))
   unfolding sung_of low_block
-  sung_append s one two xs xs' ts ts' os os' us us' h ho hu =
+  sung_append s states xs xs' ts ts' os os' us us' h ho hu =
       let p = scan (low_step k) s xs ts in
       let q = scan (low_step k) p.0 xs' ts' in
       let z = length_scan (low_step k) s xs ts in
       let e = scan_append (low_step k) s xs xs' ts ts' h in
-      let eo = ap (λ (r : ResonatorSvf × List Float). scan (frame_of m) (one, two) r.1 (os ++ os')) e ∙ scan_append (frame_of m) (one, two) p.1 q.1 os os' (z ∙ ho) in
+      let eo = ap (λ (r : ResonatorSvf × List Float). scan (frame_of m) states r.1 (os ++ os')) e ∙ scan_append (frame_of m) states p.1 q.1 os os' (z ∙ ho) in
       let ea = ap (λ (r : ResonatorSvf × List Float). added r.1 (us ++ us')) e ∙ ap (λ (r : Unit {0} × List Float). r.1) (scan_append add_step tt p.1 q.1 us us' (z ∙ hu)) in
-      λ j. record { filter = (e j).0; state_1 = (eo j).0.0; state_2 = (eo j).0.1; temp2 = (e j).1; out = (eo j).1; aux = ea j }
+      λ j. record { filter = (e j).0; states = (eo j).0; temp2 = (e j).1; out = (eo j).1; aux = ea j }
 
   -- the sizes of what it leaves
-  abbrev Full : List Float × List Float → Type 0
-  Full s = (length s.0 ≡ 24) × (length s.1 ≡ 24)
-
-  sung_sizes : (s : ResonatorSvf) (one two xs ts os us : List Float) {z : Sung} → z ≡ sung_of k s m one two xs ts os us → Full (one, two)
-      → (length z.temp2 ≡ length ts) × (length z.out ≡ length os) × (length z.aux ≡ length us) × (length z.state_1 ≡ 24) × (length z.state_2 ≡ 24)
+  sung_sizes : (s : ResonatorSvf) (states : States) (xs ts os us : List Float) {z : Sung} → z ≡ sung_of k s m states xs ts os us
+      → (length z.temp2 ≡ length ts) × (length z.out ≡ length os) × (length z.aux ≡ length us)
   unfolding sung_of low_block
-  sung_sizes s one two xs ts os us e h =
-      let p = (scan (low_step k) s xs ts).1 in
-      let g = scan_keeps (frame_of m) Full (λ (q : List Float × List Float) x y f. frame_sizes m q.0 q.1 x y refl) (one, two) p os h in (
+  sung_sizes s states xs ts os us e =
+      let p = (scan (low_step k) s xs ts).1 in (
         ap (λ (q : Sung). length q.temp2) e ∙ length_scan (low_step k) s xs ts,
-        ap (λ (q : Sung). length q.out) e ∙ g.1,
+        ap (λ (q : Sung). length q.out) e ∙ length_scan (frame_of m) states p os,
         ap (λ (q : Sung). length q.aux) e ∙ length_scan add_step tt p us,
-        ap (λ (q : Sung). length q.state_1) e ∙ g.0.0,
-        ap (λ (q : Sung). length q.state_2) e ∙ g.0.1,
       )
 
 -- i frames of n are done: the whole is they and what the frames behind them come to
-module _ (k : Mode) (s : ResonatorSvf) (m : Modes) (one two temp temp2 out aux : List Float) where
-  pub record Rest (n i : ℕ) (ts os us ones twos : List Float) (filter : ResonatorSvf) : Type 0 where
-    pub whole : sung_of k s m one two temp temp2 out aux
-        ≡ joined k m (take i ts) (take i os) (take i us) (sung_of k filter m ones twos (drop i temp) (drop i ts) (drop i os) (drop i us))
+module _ (k : Mode) (s : ResonatorSvf) (m : Modes) (states : States) (temp temp2 out aux : List Float) where
+  pub record Rest (n i : ℕ) (ts os us : List Float) (now : States) (filter : ResonatorSvf) : Type 0 where
+    pub whole : sung_of k s m states temp temp2 out aux
+        ≡ joined k m (take i ts) (take i os) (take i us) (sung_of k filter m now (drop i temp) (drop i ts) (drop i os) (drop i us))
     pub all : n ≡ length temp
     pub temp2_size : length ts ≡ n
     pub out_size : length os ≡ n
     pub aux_size : length us ≡ n
-    pub one_size : length ones ≡ 24
-    pub two_size : length twos ≡ 24
     pub within : i ≤ n
     pub small : n * 4 < 2 ^ 63
 
-  pub rest_begin : Alike temp temp2 out aux → length temp * 4 < 2 ^ 63 → length one ≡ 24 → length two ≡ 24 → Rest (length temp) 0 temp2 out aux one two s
-  rest_begin a b h1 h2 =
-      record { whole = refl; all = refl; temp2_size = a.temp2_is; out_size = a.out_is; aux_size = a.aux_is; one_size = h1; two_size = h2; within = omega arith; small = b }
+  pub rest_begin : Alike temp temp2 out aux → length temp * 4 < 2 ^ 63 → Rest (length temp) 0 temp2 out aux states s
+  rest_begin a b =
+      record { whole = refl; all = refl; temp2_size = a.temp2_is; out_size = a.out_is; aux_size = a.aux_is; within = omega arith; small = b }
 
-  pub rest_turn : {n i e : ℕ} {ts os us ones twos T O U ones' twos' : List Float} {filter filter' : ResonatorSvf}
-      → Rest n i ts os us ones twos filter → i ≤ e → e ≤ n
-      → ◌≡◌ {A = Sung} (record { filter = filter'; state_1 = ones'; state_2 = twos'; temp2 = T; out = O; aux = U })
-      (sung_of k filter m ones twos (take (e - i) (drop i temp)) (take (e - i) (drop i ts)) (take (e - i) (drop i os)) (take (e - i) (drop i us)))
-      → Rest n e (put i e T ts) (put i e O os) (put i e U us) ones' twos' filter'
-  rest_turn {n} {i} {e} {ts} {os} {us} {ones} {twos} {T} {O} {U} {ones'} {twos'} {filter} {filter'} v l g c =
+  pub rest_turn : {n i e : ℕ} {ts os us T O U : List Float} {now now' : States} {filter filter' : ResonatorSvf}
+      → Rest n i ts os us now filter → i ≤ e → e ≤ n
+      → ◌≡◌ {A = Sung} (record { filter = filter'; states = now'; temp2 = T; out = O; aux = U })
+      (sung_of k filter m now (take (e - i) (drop i temp)) (take (e - i) (drop i ts)) (take (e - i) (drop i os)) (take (e - i) (drop i us)))
+      → Rest n e (put i e T ts) (put i e O os) (put i e U us) now' filter'
+  rest_turn {n} {i} {e} {ts} {os} {us} {T} {O} {U} {now} {now'} {filter} {filter'} v l g c =
       let lt : e ≤ length ts = omega (arith, v.temp2_size, g) in
       let lo : e ≤ length os = omega (arith, v.out_size, g) in
       let lu : e ≤ length us = omega (arith, v.aux_size, g) in
@@ -151,16 +143,16 @@ module _ (k : Mode) (s : ResonatorSvf) (m : Modes) (one two temp temp2 out aux :
       let pt = part_size i e ts l lt in
       let po = part_size i e os l lo in
       let pu = part_size i e us l lu in
-      let z = sung_sizes k m filter ones twos (take (e - i) (drop i temp)) (take (e - i) (drop i ts)) (take (e - i) (drop i os)) (take (e - i) (drop i us)) c (v.one_size, v.two_size) in
+      let z = sung_sizes k m filter now (take (e - i) (drop i temp)) (take (e - i) (drop i ts)) (take (e - i) (drop i os)) (take (e - i) (drop i us)) c in
       let sT = z.0 ∙ pt in
       let sO = z.1 ∙ po in
       let sU = z.2 ∙ pu in
-      let q = sung_of k filter' m ones' twos' (drop e temp) (drop e ts) (drop e os) (drop e us) in
-      let split : sung_of k filter m ones twos (drop i temp) (drop i ts) (drop i os) (drop i us) ≡ joined k m T O U q =
-      (λ j. sung_of k filter m ones twos (in_two i e temp l j) (in_two i e ts l j) (in_two i e os l j) (in_two i e us l j))
-      ∙ sung_append k m filter ones twos (take (e - i) (drop i temp)) (drop e temp) (take (e - i) (drop i ts)) (drop e ts) (take (e - i) (drop i os)) (drop e os) (take (e - i) (drop i us)) (drop e us)
+      let q = sung_of k filter' m now' (drop e temp) (drop e ts) (drop e os) (drop e us) in
+      let split : sung_of k filter m now (drop i temp) (drop i ts) (drop i os) (drop i us) ≡ joined k m T O U q =
+      (λ j. sung_of k filter m now (in_two i e temp l j) (in_two i e ts l j) (in_two i e os l j) (in_two i e us l j))
+      ∙ sung_append k m filter now (take (e - i) (drop i temp)) (drop e temp) (take (e - i) (drop i ts)) (drop e ts) (take (e - i) (drop i os)) (drop e os) (take (e - i) (drop i us)) (drop e us)
       (px ∙ sym pt) (pt ∙ sym po) (pt ∙ sym pu)
-      ∙ ap (λ (p : Sung). joined k m p.temp2 p.out p.aux (sung_of k p.filter m p.state_1 p.state_2 (drop e temp) (drop e ts) (drop e os) (drop e us))) (sym c) in
+      ∙ ap (λ (p : Sung). joined k m p.temp2 p.out p.aux (sung_of k p.filter m p.states (drop e temp) (drop e ts) (drop e os) (drop e us))) (sym c) in
       let bt = put_before i e T ts l lt sT in
       let bo = put_before i e O os l lo sO in
       let bu = put_before i e U us l lu sU in
@@ -172,25 +164,26 @@ module _ (k : Mode) (s : ResonatorSvf) (m : Modes) (one two temp temp2 out aux :
             ∙ ap (λ (p : Sung). joined k m (take i ts) (take i os) (take i us) p) split
             ∙ (λ j. record {
               filter = q.filter;
-              state_1 = q.state_1;
-              state_2 = q.state_2;
+              states = q.states;
               temp2 = sym (append_assoc (take i ts) T q.temp2) j;
               out = sym (append_assoc (take i os) O q.out) j;
               aux = sym (append_assoc (take i us) U q.aux) j;
             })
-            ∙ (λ j. joined k m (sym bt j) (sym bo j) (sym bu j) (sung_of k filter' m ones' twos' (drop e temp) (sym et j) (sym eo j) (sym eu j)));
+            ∙ (λ j. joined k m (sym bt j) (sym bo j) (sym bu j) (sung_of k filter' m now' (drop e temp) (sym et j) (sym eo j) (sym eu j)));
         all = v.all;
         temp2_size = put_size i e T ts l lt sT ∙ v.temp2_size;
         out_size = put_size i e O os l lo sO ∙ v.out_size;
         aux_size = put_size i e U us l lu sU ∙ v.aux_size;
-        one_size = z.3;
-        two_size = z.4;
         within = g;
         small = v.small;
       }
 
+  -- the same at an equal place
+  pub rest_at : {n i j : ℕ} {ts os us : List Float} {now : States} {filter : ResonatorSvf} → Rest n i ts os us now filter → i ≡ j → Rest n j ts os us now filter
+  rest_at {n} {ts = ts} {os = os} {us = us} {now = now} {filter = filter} v e = subst (λ (j : ℕ). Rest n j ts os us now filter) e v
+
   -- the part from i to e of each buffer has one length
-  pub rest_alike : {n i e : ℕ} {ts os us ones twos : List Float} {filter : ResonatorSvf} → Rest n i ts os us ones twos filter → i ≤ e → e ≤ n
+  pub rest_alike : {n i e : ℕ} {ts os us : List Float} {now : States} {filter : ResonatorSvf} → Rest n i ts os us now filter → i ≤ e → e ≤ n
       → Alike (take (e - i) (drop i temp)) (take (e - i) (drop i ts)) (take (e - i) (drop i os)) (take (e - i) (drop i us))
   rest_alike {n} {i} {e} {ts} {os} {us} v l g =
       let px = part_size i e temp l (omega (arith, v.all, g)) in
@@ -200,24 +193,23 @@ module _ (k : Mode) (s : ResonatorSvf) (m : Modes) (one two temp temp2 out aux :
         aux_is = part_size i e us l (omega (arith, v.aux_size, g)) ∙ sym px;
       }
 
-  pub rest_end : {n i : ℕ} {ts os us ones twos : List Float} {filter : ResonatorSvf} → Rest n i ts os us ones twos filter → n ≤ i
-      → ◌≡◌ {A = Sung} (record { filter = filter; state_1 = ones; state_2 = twos; temp2 = ts; out = os; aux = us }) (sung_of k s m one two temp temp2 out aux)
-  rest_end {n} {i} {ts} {os} {us} {ones} {twos} {filter} v l =
+  pub rest_end : {n i : ℕ} {ts os us : List Float} {now : States} {filter : ResonatorSvf} → Rest n i ts os us now filter → n ≤ i
+      → ◌≡◌ {A = Sung} (record { filter = filter; states = now; temp2 = ts; out = os; aux = us }) (sung_of k s m states temp temp2 out aux)
+  rest_end {n} {i} {ts} {os} {us} {now} {filter} v l =
       let et = drop_of_length-le ts {i = i} (omega (arith, v.temp2_size, l)) in
       let eo = drop_of_length-le os {i = i} (omega (arith, v.out_size, l)) in
       let eu = drop_of_length-le us {i = i} (omega (arith, v.aux_size, l)) in
       let ex = drop_of_length-le temp {i = i} (omega (arith, v.all, l)) in
-      let none : sung_of k filter m ones twos (drop i temp) (drop i ts) (drop i os) (drop i us) ≡ record { filter = filter; state_1 = ones; state_2 = twos; temp2 = drop i ts; out = drop i os; aux = drop i us } =
-      (λ j. sung_of k filter m ones twos (ex j) (et j) (eo j) (eu j)) ∙ nothing filter ones twos ∙ (λ j. record { filter = filter; state_1 = ones; state_2 = twos; temp2 = sym et j; out = sym eo j; aux = sym eu j }) in
+      let none : sung_of k filter m now (drop i temp) (drop i ts) (drop i os) (drop i us) ≡ record { filter = filter; states = now; temp2 = drop i ts; out = drop i os; aux = drop i us } =
+      (λ j. sung_of k filter m now (ex j) (et j) (eo j) (eu j)) ∙ nothing filter now ∙ (λ j. record { filter = filter; states = now; temp2 = sym et j; out = sym eo j; aux = sym eu j }) in
       (λ j. record {
         filter = filter;
-        state_1 = ones;
-        state_2 = twos;
+        states = now;
         temp2 = sym (take-append-drop i ts) j;
         out = sym (take-append-drop i os) j;
         aux = sym (take-append-drop i us) j;
       })
       ∙ sym (v.whole ∙ ap (λ (p : Sung). joined k m (take i ts) (take i os) (take i us) p) none)
     where
-      nothing : (f : ResonatorSvf) (a b : List Float) → sung_of k f m a b [] [] [] [] ≡ record { filter = f; state_1 = a; state_2 = b; temp2 = []; out = []; aux = [] }
-      nothing f a b = unfold sung_of low_block scan in refl
+      nothing : (f : ResonatorSvf) (a : States) → sung_of k f m a [] [] [] [] ≡ record { filter = f; states = a; temp2 = []; out = []; aux = [] }
+      nothing f a = unfold sung_of low_block scan in refl

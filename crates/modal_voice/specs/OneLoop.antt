@@ -9,6 +9,7 @@ use Rattle.modes.specs.declared.resonator.ResonatorSvf.{ResonatorSvf}
 use Rattle.modes.specs.declared.resonator.Batch.{Batch}
 use Rattle.modes.specs.declared.resonator.Mode.{Mode}
 use Rattle.modes.specs.declared.resonator.Modes.{Modes}
+use Rattle.modes.specs.declared.resonator.States.{States}
 use Rattle.modal_voice.specs.declared.modal_voice.Ahead.{Ahead}
 use Rattle.modes.specs.Resonator.{low_step, low_block}
 use Rattle.modes.specs.OnePass.{frame_of, one_pass}
@@ -31,17 +32,16 @@ frames_of k s m fs temp temp2 out aux =
 -- the same with what the modes keep side by side
 pub record Sung : Type 0 where
   pub filter : ResonatorSvf
-  pub state_1 : List Float
-  pub state_2 : List Float
+  pub states : States
   pub temp2 : List Float
   pub out : List Float
   pub aux : List Float
 
-unfoldable pub sung_of : Mode → ResonatorSvf → Modes → List Float → List Float → List Float → List Float → List Float → List Float → Sung
-sung_of k s m one two temp temp2 out aux =
+unfoldable pub sung_of : Mode → ResonatorSvf → Modes → States → List Float → List Float → List Float → List Float → Sung
+sung_of k s m states temp temp2 out aux =
     let e = low_block k s temp temp2 in
-    let p = scan (frame_of m) (one, two) e.1 out in
-    record { filter = e.0; state_1 = p.0.0; state_2 = p.0.1; temp2 = e.1; out = p.1; aux = added e.1 aux }
+    let p = scan (frame_of m) states e.1 out in
+    record { filter = e.0; states = p.0; temp2 = e.1; out = p.1; aux = added e.1 aux }
 
 abbrev pub has_same_memory : ResonatorSvf → ResonatorSvf → Bool
 has_same_memory s t = same_float s.state_1 t.state_1 && same_float s.state_2 t.state_2

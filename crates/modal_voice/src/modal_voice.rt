@@ -5,10 +5,11 @@ ghost use Rattle.ground.specs.F32.{◌⊗◌, c0·7, c1·5, c2, c4, c36, c60};
 ghost use Rattle.ground.specs.Draw.{ret, run, Ran};
 ghost use Rattle.noise.specs.Excitation.{Alike, added};
 ghost use Rattle.modes.specs.Resonator.{low_block};
+ghost use Rattle.modes.specs.OnePass.{FullStates};
 ghost use Rattle.modal_voice.specs.OneLoop.{Framed, frames_of, Sung, sung_of, has_same_memory, memory, pass_of, Stays, ahead_of};
 ghost use Rattle.modal_voice.specs.ModalVoice.{voice_new, voice_init, cutoff_for, strike_of, clicked, excitation, held_after, excitation_words, excitation_counts, Excited, excite_of, Sounded, sound_of, After, render_of};
 
-use modes::resonator::{Batch, Mode, Modes, Quiet, Resonator, ResonatorSvf};
+use modes::resonator::{Batch, Mode, Modes, Quiet, Resonator, ResonatorSvf, States};
 use noise::excitation::{Counts, Knobs};
 
 // A voice. A strike on an empty block is held for the next block that has frames.
@@ -27,31 +28,11 @@ pub struct Rendered {
     pub counts: Counts,
 }
 
-fn range(sustain: bool) -> f32
-    ensures { result ≡ cond sustain c36 c60 }
+// What the voice takes where it is sustained, and where it is struck.
+fn choose(sustain: bool, sustained: f32, struck: f32) -> f32
+    ensures { result ≡ cond sustain sustained struck }
 {
-    if sustain {
-        return 36.0;
-    }
-    60.0
-}
-
-fn base(sustain: bool, f0: f32) -> f32
-    ensures { result ≡ cond sustain (c4 ⊗ f0) (c2 ⊗ f0) }
-{
-    if sustain {
-        return 4.0 * f0;
-    }
-    2.0 * f0
-}
-
-fn resonance(sustain: bool) -> f32
-    ensures { result ≡ cond sustain c0·7 c1·5 }
-{
-    if sustain {
-        return 0.7;
-    }
-    1.5
+    if sustain { sustained } else { struck }
 }
 
 // The cutoff of the excitation filter.
@@ -59,9 +40,10 @@ fn cutoff_for(k: Knobs) -> f32
     ensures { result ≡ cutoff_for k }
 {
     let brightness = noise::excitation::raise(k.accent, k.brightness);
-    let semitones = (brightness * (2.0 - brightness) - 0.5) * range(k.sustain);
+    let semitones = (brightness * (2.0 - brightness) - 0.5) * choose(k.sustain, 36.0, 60.0);
     let ratio = utils::units::semitones_to_ratio(semitones);
-    ground::floats::min(base(k.sustain, k.f0) * ratio, 0.499)
+    let base = choose(k.sustain, 4.0 * k.f0, 2.0 * k.f0);
+    ground::floats::min(base * ratio, 0.499)
 }
 
 // The click of a strike.
@@ -115,16 +97,9 @@ fn held_after(k: Knobs, held: bool, n: usize) -> bool
 fn counts_of(sustain: bool, n: usize) -> Counts
     ensures { result ≡ excitation_counts (excitation_words sustain n) }
 {
-    if sustain {
-        return Counts {
-            burst: 0,
-            dust: n,
-            dispersion: 0,
-        };
-    }
     Counts {
         burst: 0,
-        dust: 0,
+        dust: if sustain { n } else { 0 },
         dispersion: 0,
     }
 }
@@ -145,30 +120,27 @@ pub struct Filtered {
     pub mode_filters: [Batch; 6],
 }
 
-// Whether the memory of two filters is the same, a and b that of the one and c and d that of the other.
-fn stands(a: f32, b: f32, c: f32, d: f32) -> bool
-    ensures { (result ≡ has_same_memory (record { state_1 = a; state_2 = b }) (record { state_1 = c; state_2 = d })) × (result ≡ true → (a ≡ c) × (b ≡ d)) }
+// Whether the memory of two filters is the same.
+fn stands(s: ResonatorSvf, t: ResonatorSvf) -> bool
+    ensures { (result ≡ has_same_memory s t) × (result ≡ true → s ≡ t) }
 {
-    if ground::bits::same(a, c) {
-        return ground::bits::same(b, d);
+    if ground::bits::same(s.state_1, t.state_1) {
+        return ground::bits::same(s.state_2, t.state_2);
     }
     false
 }
 
 // A sample through the excitation filter; `around` subnormal products where its memory is small.
-fn pass(around: bool, k: Mode, state_1: f32, state_2: f32, in_: f32) -> Ahead
-    ensures { (result ≡ pass_of k (record { state_1 = state_1; state_2 = state_2 }) in_) × Stays k result in_ }
+fn pass(around: bool, k: Mode, s: ResonatorSvf, in_: f32) -> Ahead
+    ensures { (result ≡ pass_of k s in_) × Stays k result in_ }
 {
-    let s = ResonatorSvf { state_1, state_2 };
     let small = around & modes::resonator::is_small(s);
     let t = modes::resonator::tick_at(small, k, s, in_);
-    let after_1 = t.svf.state_1;
-    let after_2 = t.svf.state_2;
     Ahead {
-        state_1: after_1,
-        state_2: after_2,
+        state_1: t.svf.state_1,
+        state_2: t.svf.state_2,
         x: 0.0 + modes::resonator::scale(small, k.gain, t.lp),
-        stands: stands(state_1, state_2, after_1, after_2),
+        stands: stands(s, t.svf),
     }
 }
 
@@ -177,7 +149,7 @@ fn filter_first(k: Mode, s: ResonatorSvf, temp: &[f32]) -> Ahead
     ensures { (result ≡ ahead_of k s temp.now 0) × Stays k result (get_or temp.now 0 nan) }
 {
     if 0 < temp.len() {
-        return pass(false, k, s.state_1, s.state_2, temp[0]);
+        return pass(false, k, s, temp[0]);
     }
     Ahead {
         state_1: s.state_1,
@@ -198,7 +170,7 @@ fn filter_on(around: bool, k: Mode, o: Ahead, temp: &[f32], i: usize) -> Ahead
                 return o;
             }
         }
-        return pass(around, k, o.state_1, o.state_2, temp[i + 1]);
+        return pass(around, k, memory(o), temp[i + 1]);
     }
     Ahead {
         state_1: o.state_1,
@@ -208,43 +180,46 @@ fn filter_on(around: bool, k: Mode, o: Ahead, temp: &[f32], i: usize) -> Ahead
     }
 }
 
-// Each frame through all modes. The excitation filter is a frame ahead of the modes, so that neither waits for the other.
-fn frames_loud(
+// What the excitation filter keeps.
+fn memory(o: Ahead) -> ResonatorSvf
+    ensures { result ≡ memory o }
+{
+    ResonatorSvf {
+        state_1: o.state_1,
+        state_2: o.state_2,
+    }
+}
+
+// Each frame through all modes, around subnormal products at AROUND. The excitation filter is a frame ahead of the modes, so that neither waits for the other.
+fn frames_in_one<const AROUND: bool>(
     k: Mode,
     s: ResonatorSvf,
-    g: &[f32; 24],
-    r_plus_g: &[f32; 24],
-    h: &[f32; 24],
-    gain: &[f32; 24],
-    state_1: &mut [f32; 24],
-    state_2: &mut [f32; 24],
+    m: &Modes,
+    states: &mut States,
     temp: &[f32],
     temp_2: &mut [f32],
     out: &mut [f32],
     aux: &mut [f32],
 ) -> ResonatorSvf
-    requires { Alike temp.now temp_2.old out.old aux.old × (length state_1.old ≡ 24) × (length state_2.old ≡ 24) }
-    ensures { record { filter = result; state_1 = state_1.new; state_2 = state_2.new; temp2 = temp_2.new; out = out.new; aux = aux.new } ≡ sung_of k s (record { g = g.now; r_plus_g = r_plus_g.now; h = h.now; gain = gain.now }) state_1.old state_2.old temp.now temp_2.old out.old aux.old }
+    requires { Alike temp.now temp_2.old out.old aux.old }
+    ensures { record { filter = result; states = states.new; temp2 = temp_2.new; out = out.new; aux = aux.new } ≡ sung_of k s m.now states.old temp.now temp_2.old out.old aux.old }
 {
-    let n = temp.len();
-    let mut filter_1 = s.state_1;
-    let mut filter_2 = s.state_2;
+    let mut quiet = Quiet {
+        low: false,
+        high: false,
+    };
     let mut ahead = filter_first(k, s, temp);
-    let mut i = 0;
-    while i < n {
+    for i in 0..temp.len() {
         let x = ahead.x;
-        ahead = filter_on(false, k, ahead, temp, i);
-        filter_1 = ahead.state_1;
-        filter_2 = ahead.state_2;
+        ahead = filter_on(AROUND, k, ahead, temp, i);
         temp_2[i] = x;
         aux[i] += x;
-        out[i] = modes::resonator::frame_loud(g, r_plus_g, h, gain, state_1, state_2, x, out[i]);
-        i += 1;
+        if AROUND {
+            quiet = states.quiet_at(quiet, x, i);
+        }
+        out[i] = m.frame_at(quiet, states, x, out[i]);
     }
-    ResonatorSvf {
-        state_1: filter_1,
-        state_2: filter_2,
-    }
+    memory(ahead)
 }
 
 // The excitation filter over all frames, and its mix into aux.
@@ -258,46 +233,32 @@ fn filter_frames(
     requires { (length temp_2.old ≡ length temp.now) × (length aux.old ≡ length temp.now) }
     ensures { ((result, temp_2.new) ≡ low_block k s temp.now temp_2.old) × (aux.new ≡ added temp_2.new aux.old) }
 {
-    let n = temp.len();
-    let mut filter_1 = s.state_1;
-    let mut filter_2 = s.state_2;
     let mut ahead = filter_first(k, s, temp);
-    let mut i = 0;
-    while i < n {
-        let given = ahead.x;
+    for i in 0..temp.len() {
+        let x = ahead.x;
         ahead = filter_on(false, k, ahead, temp, i);
-        filter_1 = ahead.state_1;
-        filter_2 = ahead.state_2;
-        temp_2[i] = given;
-        aux[i] += given;
-        i += 1;
+        temp_2[i] = x;
+        aux[i] += x;
     }
-    ResonatorSvf {
-        state_1: filter_1,
-        state_2: filter_2,
-    }
+    memory(ahead)
 }
 
 // At most 64 frames, the filter and each half of the modes by itself.
 fn frames_apart(
     k: Mode,
     s: ResonatorSvf,
-    g: &[f32; 24],
-    r_plus_g: &[f32; 24],
-    h: &[f32; 24],
-    gain: &[f32; 24],
-    state_1: &mut [f32; 24],
-    state_2: &mut [f32; 24],
+    m: &Modes,
+    states: &mut States,
     temp: &[f32],
     temp_2: &mut [f32],
     out: &mut [f32],
     aux: &mut [f32],
 ) -> ResonatorSvf
-    requires { (length temp.now ≤ 64) × Alike temp.now temp_2.old out.old aux.old × (length state_1.old ≡ 24) × (length state_2.old ≡ 24) }
-    ensures { record { filter = result; state_1 = state_1.new; state_2 = state_2.new; temp2 = temp_2.new; out = out.new; aux = aux.new } ≡ sung_of k s (record { g = g.now; r_plus_g = r_plus_g.now; h = h.now; gain = gain.now }) state_1.old state_2.old temp.now temp_2.old out.old aux.old }
+    requires { (length temp.now ≤ 64) × Alike temp.now temp_2.old out.old aux.old × FullStates states.old }
+    ensures { record { filter = result; states = states.new; temp2 = temp_2.new; out = out.new; aux = aux.new } ≡ sung_of k s m.now states.old temp.now temp_2.old out.old aux.old }
 {
     let filter = filter_frames(k, s, temp, temp_2, aux);
-    halves::run_halves(g, r_plus_g, h, gain, state_1, state_2, temp_2, out);
+    halves::run_halves(m, states, temp_2, out);
     filter
 }
 
@@ -305,143 +266,52 @@ fn frames_apart(
 fn frames_some(
     k: Mode,
     s: ResonatorSvf,
-    g: &[f32; 24],
-    r_plus_g: &[f32; 24],
-    h: &[f32; 24],
-    gain: &[f32; 24],
-    state_1: &mut [f32; 24],
-    state_2: &mut [f32; 24],
+    m: &Modes,
+    states: &mut States,
     temp: &[f32],
     temp_2: &mut [f32],
     out: &mut [f32],
     aux: &mut [f32],
 ) -> ResonatorSvf
-    requires { (length temp.now ≤ 64) × Alike temp.now temp_2.old out.old aux.old × (length state_1.old ≡ 24) × (length state_2.old ≡ 24) }
-    ensures { record { filter = result; state_1 = state_1.new; state_2 = state_2.new; temp2 = temp_2.new; out = out.new; aux = aux.new } ≡ sung_of k s (record { g = g.now; r_plus_g = r_plus_g.now; h = h.now; gain = gain.now }) state_1.old state_2.old temp.now temp_2.old out.old aux.old }
+    requires { (length temp.now ≤ 64) × Alike temp.now temp_2.old out.old aux.old }
+    ensures { record { filter = result; states = states.new; temp2 = temp_2.new; out = out.new; aux = aux.new } ≡ sung_of k s m.now states.old temp.now temp_2.old out.old aux.old }
 {
-    if modes::resonator::rests(state_1, state_2) {
-        return frames_apart(
-            k, s, g, r_plus_g, h, gain, state_1, state_2, temp, temp_2, out, aux,
-        );
+    if states.rests() {
+        return frames_apart(k, s, m, states, temp, temp_2, out, aux);
     }
-    frames_loud(
-        k, s, g, r_plus_g, h, gain, state_1, state_2, temp, temp_2, out, aux,
-    )
+    frames_in_one::<false>(k, s, m, states, temp, temp_2, out, aux)
 }
 
 // All frames, with subnormal products as they come.
 fn frames_plain(
     k: Mode,
     s: ResonatorSvf,
-    g: &[f32; 24],
-    r_plus_g: &[f32; 24],
-    h: &[f32; 24],
-    gain: &[f32; 24],
-    state_1: &mut [f32; 24],
-    state_2: &mut [f32; 24],
+    m: &Modes,
+    states: &mut States,
     temp: &[f32],
     temp_2: &mut [f32],
     out: &mut [f32],
     aux: &mut [f32],
 ) -> ResonatorSvf
-    requires { Alike temp.now temp_2.old out.old aux.old × (length state_1.old ≡ 24) × (length state_2.old ≡ 24) }
-    ensures { record { filter = result; state_1 = state_1.new; state_2 = state_2.new; temp2 = temp_2.new; out = out.new; aux = aux.new } ≡ sung_of k s (record { g = g.now; r_plus_g = r_plus_g.now; h = h.now; gain = gain.now }) state_1.old state_2.old temp.now temp_2.old out.old aux.old }
+    requires { Alike temp.now temp_2.old out.old aux.old }
+    ensures { record { filter = result; states = states.new; temp2 = temp_2.new; out = out.new; aux = aux.new } ≡ sung_of k s m.now states.old temp.now temp_2.old out.old aux.old }
 {
     let n = temp.len();
     let mut kept = s;
-    let mut i = 0;
-    while i < n {
-        let end = utils::min_usize(i + 64, n);
+    for i in (0..n).step_by(64) {
+        let end = n.min(i + 64);
         kept = frames_some(
             k,
             kept,
-            g,
-            r_plus_g,
-            h,
-            gain,
-            state_1,
-            state_2,
+            m,
+            states,
             &temp[i..end],
             &mut temp_2[i..end],
             &mut out[i..end],
             &mut aux[i..end],
         );
-        i = end;
     }
     kept
-}
-
-// The same, around subnormal products.
-fn frames_around(
-    k: Mode,
-    s: ResonatorSvf,
-    g: &[f32; 24],
-    r_plus_g: &[f32; 24],
-    h: &[f32; 24],
-    gain: &[f32; 24],
-    state_1: &mut [f32; 24],
-    state_2: &mut [f32; 24],
-    temp: &[f32],
-    temp_2: &mut [f32],
-    out: &mut [f32],
-    aux: &mut [f32],
-) -> ResonatorSvf
-    requires { Alike temp.now temp_2.old out.old aux.old × (length state_1.old ≡ 24) × (length state_2.old ≡ 24) }
-    ensures { record { filter = result; state_1 = state_1.new; state_2 = state_2.new; temp2 = temp_2.new; out = out.new; aux = aux.new } ≡ sung_of k s (record { g = g.now; r_plus_g = r_plus_g.now; h = h.now; gain = gain.now }) state_1.old state_2.old temp.now temp_2.old out.old aux.old }
-{
-    let mut quiet = Quiet {
-        low: false,
-        high: false,
-    };
-    let n = temp.len();
-    let mut filter_1 = s.state_1;
-    let mut filter_2 = s.state_2;
-    let mut ahead = filter_first(k, s, temp);
-    let mut i = 0;
-    while i < n {
-        let x = ahead.x;
-        ahead = filter_on(true, k, ahead, temp, i);
-        filter_1 = ahead.state_1;
-        filter_2 = ahead.state_2;
-        temp_2[i] = x;
-        aux[i] += x;
-        quiet = modes::resonator::quiet_at(quiet, state_1, state_2, x, i);
-        out[i] = modes::resonator::frame(quiet, g, r_plus_g, h, gain, state_1, state_2, x, out[i]);
-        i += 1;
-    }
-    ResonatorSvf {
-        state_1: filter_1,
-        state_2: filter_2,
-    }
-}
-
-// The one or the other.
-fn frames_at(
-    around: bool,
-    k: Mode,
-    s: ResonatorSvf,
-    g: &[f32; 24],
-    r_plus_g: &[f32; 24],
-    h: &[f32; 24],
-    gain: &[f32; 24],
-    state_1: &mut [f32; 24],
-    state_2: &mut [f32; 24],
-    temp: &[f32],
-    temp_2: &mut [f32],
-    out: &mut [f32],
-    aux: &mut [f32],
-) -> ResonatorSvf
-    requires { Alike temp.now temp_2.old out.old aux.old × (length state_1.old ≡ 24) × (length state_2.old ≡ 24) }
-    ensures { record { filter = result; state_1 = state_1.new; state_2 = state_2.new; temp2 = temp_2.new; out = out.new; aux = aux.new } ≡ sung_of k s (record { g = g.now; r_plus_g = r_plus_g.now; h = h.now; gain = gain.now }) state_1.old state_2.old temp.now temp_2.old out.old aux.old }
-{
-    if around {
-        return frames_around(
-            k, s, g, r_plus_g, h, gain, state_1, state_2, temp, temp_2, out, aux,
-        );
-    }
-    frames_plain(
-        k, s, g, r_plus_g, h, gain, state_1, state_2, temp, temp_2, out, aux,
-    )
 }
 
 // Both halves' loops as one.
@@ -449,7 +319,7 @@ fn sound_frames(
     around: bool,
     k: Mode,
     s: ResonatorSvf,
-    m: Modes,
+    m: &Modes,
     mode_filters: [Batch; 6],
     temp: &[f32],
     temp_2: &mut [f32],
@@ -457,34 +327,17 @@ fn sound_frames(
     aux: &mut [f32],
 ) -> Filtered
     requires { Alike temp.now temp_2.old out.old aux.old }
-    ensures { record { filter = result.filter; mode_filters = result.mode_filters; temp2 = temp_2.new; out = out.new; aux = aux.new } ≡ frames_of k s m mode_filters temp.now temp_2.old out.old aux.old }
+    ensures { record { filter = result.filter; mode_filters = result.mode_filters; temp2 = temp_2.new; out = out.new; aux = aux.new } ≡ frames_of k s m.now mode_filters temp.now temp_2.old out.old aux.old }
 {
-    let g = m.g;
-    let r_plus_g = m.r_plus_g;
-    let h = m.h;
-    let gain = m.gain;
-    let states = modes::resonator::states_of(mode_filters);
-    let mut state_1 = states.state_1;
-    let mut state_2 = states.state_2;
-    let filter = frames_at(
-        around,
-        k,
-        s,
-        &g,
-        &r_plus_g,
-        &h,
-        &gain,
-        &mut state_1,
-        &mut state_2,
-        temp,
-        temp_2,
-        out,
-        aux,
-    );
-    let after = modes::resonator::filters_of(&state_1, &state_2);
+    let mut states = States::from(mode_filters);
+    let filter = if around {
+        frames_in_one::<true>(k, s, m, &mut states, temp, temp_2, out, aux)
+    } else {
+        frames_plain(k, s, m, &mut states, temp, temp_2, out, aux)
+    };
     Filtered {
         filter,
-        mode_filters: after,
+        mode_filters: states.into(),
     }
 }
 
@@ -529,7 +382,7 @@ impl ModalVoice {
         } }
     {
         let cutoff = cutoff_for(k);
-        let q = resonance(k.sustain);
+        let q = choose(k.sustain, 0.7, 1.5);
         let before = self.held;
         let held = held_after(k, before, temp.len());
         let counts = counts_of(k.sustain, temp.len());
@@ -591,7 +444,7 @@ impl ModalVoice {
         } }
     {
         let cutoff = cutoff_for(k);
-        let q = resonance(k.sustain);
+        let q = choose(k.sustain, 0.7, 1.5);
         let before = self.held;
         let held = held_after(k, before, temp.len());
         let counts = counts_of(k.sustain, temp.len());
@@ -608,7 +461,7 @@ impl ModalVoice {
             around,
             mode,
             filter,
-            modes,
+            &modes,
             before_filters,
             temp,
             temp_2,

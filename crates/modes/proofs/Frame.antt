@@ -1,22 +1,25 @@
 -- What the loops over the modes store, and a frame of them, as laws over plain values. Assumes nothing.
 use mathlib.Core.Path.{◌≡◌, refl, sym, ◌∙◌, ap, ap₂, subst}
 use mathlib.Core.List.{List}
-use mathlib.Core.Bool.{Bool, true, false}
+use mathlib.Core.Bool.{Bool, false, ◌||◌}
 use Prim.Native.Nat.{ℕ, zero, suc, ◌+◌, ◌-◌, ◌≤◌, ◌<◌}
 use native.Mathlib.Omega.{arith}
-use lib.ListN.{get_or, length, set}
+use lib.ListN.{get_or, length, set, replicate}
 use lib.Dec.{T}
 use lib.Ieee.{Float, nan, binary32, fits}
 use lib.Ieee.Fits.{mul-fits}
-use Rattle.ground.specs.F32.{◌⊕◌, ◌⊖◌, ◌⊗◌, c1, c2}
-use Rattle.ground.proofs.Tab.{Stored, stored_begin, stored_read, stored_turn, stored_end, length_tab}
+use Rattle.ground.specs.F32.{◌⊕◌, ◌⊖◌, ◌⊗◌, c0, c1, c2}
+use Rattle.ground.specs.Frames.{tab}
+use Rattle.ground.proofs.Tab.{tab_get_d, length_tab}
 use Rattle.modes.specs.declared.resonator.Mode.{Mode}
 use Rattle.modes.specs.declared.resonator.ResonatorSvf.{ResonatorSvf}
 use Rattle.modes.specs.declared.resonator.Ticked.{Ticked}
 use Rattle.modes.specs.declared.resonator.Modes.{Modes}
 use Rattle.modes.specs.declared.resonator.Partial.{Partial}
+use Rattle.modes.specs.declared.resonator.States.{States}
+use Rattle.modes.specs.Subnormal.{is_small}
 use Rattle.modes.specs.Resonator.{tick_of, cap_of, frequency, resonance, amplitude}
-use Rattle.modes.specs.OnePass.{Bands, mode_in, state_at, tick_in, bands_of, place_of, places_of, plain_of, add_bare, frame_of}
+use Rattle.modes.specs.OnePass.{FullStates, Bands, state_at, small_four, tick_in, bands_of, place_of, places_of, add_bare, frame_of}
 use Rattle.modes.proofs.Bare.{add_bare_lem, tab_fits}
 
 -- what the loop over the modes stores at a mode, where it stands at p as at p'
@@ -33,110 +36,116 @@ module _ {p p' : Partial} {v : Float} (e : v ≡ cap_of (p.harmonic ⊗ p.stretc
   unfolding amplitude
   stored_a a = ap (λ (f : Float). a ⊗ (c1 ⊖ f ⊗ c2)) stored_f
 
--- the mode i's tick, of the states as they stand in the loop: those of the loop's begin
-pub ticked_here : (k : Mode) (x : Float) {f g : ℕ → Float} {one₀ two₀ one two : List Float} {i : ℕ} {o : Ticked}
-    → Stored f one₀ i one → Stored g two₀ i two → i < length one₀ → i < length two₀
-    → o ≡ tick_of k (state_at one two i) x → o ≡ tick_of k (state_at one₀ two₀ i) x
-ticked_here k x {f} {g} {one₀} {two₀} {one} {two} {i} a b la lb e =
-    e ∙ ap₂ (λ (u v : Float). tick_of k (record { state_1 = u; state_2 = v }) x) (stored_read nan a la) (stored_read nan b lb)
+-- whether one of n modes from a place on is small, and a loop that finds it out
+abbrev pub small_in : States → ℕ → ℕ → Bool
+small_in s zero i = false
+small_in s (suc n) i = small_in s n i || is_small (state_at s (i + n))
 
--- the modes below i are ticked, of states that were one₀ and two₀
-record Ticks (k : Modes) (x : Float) (one₀ two₀ bands₀ : List Float) (i : ℕ) (one two bands : List Float) : Type 0 where
-  pub first : Stored (λ t. (tick_in k one₀ two₀ x t).svf.state_1) one₀ i one
-  pub second : Stored (λ t. (tick_in k one₀ two₀ x t).svf.state_2) two₀ i two
-  pub heard : Stored (λ t. get_or k.gain t nan ⊗ (tick_in k one₀ two₀ x t).bp) bands₀ i bands
+module _ (s : States) (i : ℕ) where
+  pub small_begin : false ≡ small_in s (i - i) i
+  small_begin = let e : 0 ≡ i - i = omega arith in ap (λ (n : ℕ). small_in s n i) e
 
--- at most 16 are not tested
-pub plain_le : (low : Bool) (n : ℕ) → n ≡ plain_of low → n ≤ 16
-plain_le true n e = omega (arith, e)
-plain_le false n e = omega (arith, e)
+  pub small_turn : {t : ℕ} {b v : Bool} → b ≡ small_in s (t - i) i → i ≤ t → v ≡ is_small (state_at s t) → (b || v) ≡ small_in s (t + 1 - i) i
+  small_turn {t} h l e =
+      let p : t ≡ i + (t - i) = omega (arith, l) in
+      let q : suc (t - i) ≡ t + 1 - i = omega (arith, l) in
+      (λ j. h j || (e ∙ ap (λ (u : ℕ). is_small (state_at s u)) p) j) ∙ ap (λ (n : ℕ). small_in s n i) q
 
--- a place more is ticked, and n more
-module _ (k : Modes) (x : Float) (one₀ two₀ bands₀ : List Float) (la : length one₀ ≡ 24) (lb : length two₀ ≡ 24) (lc : length bands₀ ≡ 24) where
-  ticks_place : (b : Bands) (i : ℕ) → Ticks k x one₀ two₀ bands₀ i b.state_1 b.state_2 b.bands → i < 24
-      → Ticks k x one₀ two₀ bands₀ (i + 1) (place_of k b x i).state_1 (place_of k b x i).state_2 (place_of k b x i).bands
-  ticks_place b i u l =
-      let e = ticked_here (mode_in k i) x u.first u.second (omega (arith, la, l)) (omega (arith, lb, l)) refl in
+  pub small_end : {t : ℕ} {b : Bool} → b ≡ small_in s (t - i) i → t ≡ i + 4 → b ≡ small_four s i
+  small_end {t} h e =
+      let p : t - i ≡ 4 = omega (arith, e) in
+      let q : i + 0 ≡ i = omega arith in
+      h
+      ∙ ap (λ (n : ℕ). small_in s n i) p
+      ∙ ap (λ (u : ℕ). is_small (state_at s u) || is_small (state_at s (i + 1)) || is_small (state_at s (i + 2)) || is_small (state_at s (i + 3))) q
+
+-- a loop over places: those from i to t are done
+pub record Placed (k : Modes) (x : Float) (i : ℕ) (b₀ : Bands) (t : ℕ) (b : Bands) : Type 0 where
+  pub so_far : b ≡ places_of (t - i) k b₀ x i
+
+-- one place more behind n
+places_more : (n : ℕ) (k : Modes) (b : Bands) (x : Float) (i : ℕ) → places_of (suc n) k b x i ≡ place_of k (places_of n k b x i) x (i + n)
+places_more zero k b x i = let e : i ≡ i + 0 = omega arith in ap (λ (t : ℕ). place_of k b x t) e
+places_more (suc n) k b x i =
+    let e : i + 1 + n ≡ i + suc n = omega arith in
+    places_more n k (place_of k b x i) x (i + 1) ∙ ap (λ (t : ℕ). place_of k (places_of (suc n) k b x i) x t) e
+
+-- and n + m places are n and then m
+places_then : (n m : ℕ) (k : Modes) (b : Bands) (x : Float) (i : ℕ) → places_of m k (places_of n k b x i) x (i + n) ≡ places_of (n + m) k b x i
+places_then zero m k b x i =
+    let e : i + 0 ≡ i = omega arith in
+    let f : m ≡ 0 + m = omega arith in
+    (λ j. places_of (f j) k b x (e j))
+places_then (suc n) m k b x i =
+    let e : i + suc n ≡ i + 1 + n = omega arith in
+    let f : suc (n + m) ≡ suc n + m = omega arith in
+    ap (λ (t : ℕ). places_of m k (places_of (suc n) k b x i) x t) e ∙ places_then n m k (place_of k b x i) x (i + 1) ∙ ap (λ (p : ℕ). places_of p k b x i) f
+
+module _ (k : Modes) (x : Float) (i : ℕ) (b₀ : Bands) where
+  pub placed_begin : Placed k x i b₀ i b₀
+  placed_begin = let e : 0 ≡ i - i = omega arith in record { so_far = ap (λ (n : ℕ). places_of n k b₀ x i) e }
+
+  pub placed_turn : {t : ℕ} {b b' : Bands} → Placed k x i b₀ t b → i ≤ t → b' ≡ place_of k b x t → Placed k x i b₀ (t + 1) b'
+  placed_turn {t} {b} {b'} v l e =
+      let p : i + (t - i) ≡ t = omega (arith, l) in
+      let q : suc (t - i) ≡ t + 1 - i = omega (arith, l) in
       record {
-        first = stored_turn u.first (omega (arith, la, l)) (ap (λ (o : Ticked). o.svf.state_1) e);
-        second = stored_turn u.second (omega (arith, lb, l)) (ap (λ (o : Ticked). o.svf.state_2) e);
-        heard = stored_turn u.heard (omega (arith, lc, l)) (ap (λ (o : Ticked). get_or k.gain i nan ⊗ o.bp) e);
+        so_far = e
+            ∙ ap (λ (b : Bands). place_of k b x t) v.so_far
+            ∙ ap (λ (m : ℕ). place_of k (places_of (t - i) k b₀ x i) x m) (sym p)
+            ∙ sym (places_more (t - i) k b₀ x i)
+            ∙ ap (λ (n : ℕ). places_of n k b₀ x i) q;
       }
 
-  ticks_on : (n : ℕ) (b : Bands) (i j : ℕ) → Ticks k x one₀ two₀ bands₀ i b.state_1 b.state_2 b.bands → i + n ≡ j → j ≤ 24
-      → (let c = places_of n k b x i in Ticks k x one₀ two₀ bands₀ j c.state_1 c.state_2 c.bands)
-  ticks_on zero b i j u e l =
-      let p : i ≡ j = omega (arith, e) in
-      subst (λ (m : ℕ). Ticks k x one₀ two₀ bands₀ m b.state_1 b.state_2 b.bands) p u
-  ticks_on (suc n) b i j u e l = ticks_on n (place_of k b x i) (i + 1) j (ticks_place b i u (omega (arith, e, l))) (omega (arith, e)) l
+-- what holds of states that are written out holds of all
+abbrev pub states_tab : (ℕ → Float) → (ℕ → Float) → States
+states_tab f g = record { state_1 = tab 24 f; state_2 = tab 24 g }
 
-  ticks_places : (n : ℕ) (b b' : Bands) (i j : ℕ) → Ticks k x one₀ two₀ bands₀ i b.state_1 b.state_2 b.bands → i + n ≡ j → j ≤ 24 → b' ≡ places_of n k b x i
-      → Ticks k x one₀ two₀ bands₀ j b'.state_1 b'.state_2 b'.bands
-  ticks_places n b b' i j u e l f = subst (λ (c : Bands). Ticks k x one₀ two₀ bands₀ j c.state_1 c.state_2 c.bands) (sym f) (ticks_on n b i j u e l)
+pub states_written : (P : States → Type 0) → ((f g : ℕ → Float) → P (states_tab f g)) → (s : States) → FullStates s → P s
+states_written P h s z =
+    subst (λ (a : List Float). P (record { state_1 = a; state_2 = s.state_2 })) (tab_get_d s.state_1 24 nan z.0)
+    (subst (λ (b : List Float). P (record { state_1 = tab 24 (λ t. get_or s.state_1 t nan); state_2 = b })) (tab_get_d s.state_2 24 nan z.1)
+    (h (λ t. get_or s.state_1 t nan) (λ t. get_or s.state_2 t nan)))
 
-  -- those that are not tested, then the others
-  pub ticks_all : (low : Bool) (b b' : Bands) (n : ℕ) → n ≡ plain_of low
-      → b ≡ places_of (plain_of low) k (record { state_1 = one₀; state_2 = two₀; bands = bands₀ }) x 0 → b' ≡ places_of (24 - n) k b x n
-      → b' ≡ bands_of k one₀ two₀ x
-  unfolding bands_of
-  ticks_all low b b' n en e e' =
-      let w : Bands = record { state_1 = one₀; state_2 = two₀; bands = bands₀ } in
-      let h = plain_le low n en in
-      let f = e ∙ ap (λ (m : ℕ). places_of m k w x 0) (sym en) in
-      let u = ticks_places n w b 0 n (record { first = stored_begin; second = stored_begin; heard = stored_begin }) (omega arith) (omega (arith, h)) f in
-      let v = ticks_places (24 - n) b b' n 24 u (omega (arith, h)) (omega arith) e' in
-      λ j. record {
-        state_1 = stored_end {n = 24} v.first refl (sym la) j;
-        state_2 = stored_end {n = 24} v.second refl (sym lb) j;
-        bands = stored_end {n = 24} v.heard refl (sym lc) j;
-      }
+-- all 24 places are all modes
+places_written : (k : Modes) (x : Float) (f g : ℕ → Float)
+    → places_of 24 k (record { states = states_tab f g; bands = replicate 24 c0 }) x 0 ≡ bands_of k (states_tab f g) x
+unfolding tab bands_of
+places_written k x f g = refl
 
--- a loop over places, by what is still to do
-pub place_turn : (k : Modes) (b : Bands) (x : Float) (j e : ℕ) {o : Ticked} {z : Float} {r : Bands}
-    → places_of (e - j) k b x j ≡ r → j < e → o ≡ tick_of (mode_in k j) (state_at b.state_1 b.state_2 j) x → z ≡ get_or k.gain j nan ⊗ o.bp
-    → places_of (e - (j + 1)) k (record { state_1 = set b.state_1 j o.svf.state_1; state_2 = set b.state_2 j o.svf.state_2; bands = set b.bands j z }) x (j + 1) ≡ r
-place_turn k b x j e {o} {z} {r} v l eo ez =
-    let s : e - j ≡ suc (e - (j + 1)) = omega (arith, l) in
-    let w = ez ∙ ap (λ (o : Ticked). get_or k.gain j nan ⊗ o.bp) eo in
-    (λ i. places_of (e - (j + 1)) k (record { state_1 = set b.state_1 j (eo i).svf.state_1; state_2 = set b.state_2 j (eo i).svf.state_2; bands = set b.bands j (w i) }) x (j + 1))
-    ∙ sym (ap (λ (n : ℕ). places_of n k b x j) s)
-    ∙ v
-
-pub places_end : (k : Modes) (b : Bands) (x : Float) (j e : ℕ) {r : Bands} → places_of (e - j) k b x j ≡ r → e ≤ j → b ≡ r
-places_end k b x j e v l = let s : e - j ≡ 0 = omega (arith, l) in sym (ap (λ (n : ℕ). places_of n k b x j) s) ∙ v
-
--- a tick, its products named
-pub ticked_small : (k : Mode) (s : ResonatorSvf) (x : Float) {r hp a b : Float}
-    → r ≡ k.r_plus_g ⊗ s.state_1 → hp ≡ (x ⊖ r ⊖ s.state_2) ⊗ k.h → a ≡ k.g ⊗ hp → b ≡ k.g ⊗ (a ⊕ s.state_1)
-    → ◌≡◌ {A = Ticked} (record { svf = record { state_1 = a ⊕ (a ⊕ s.state_1); state_2 = b ⊕ (b ⊕ s.state_2) }; bp = a ⊕ s.state_1; lp = b ⊕ s.state_2 })
-    (tick_of k s x)
-unfolding tick_of
-ticked_small k s x er eh ea eb = rw (eb, ea, eh, er)
-
--- all modes have states and a band after a sample
-pub bands_sizes : {b : Bands} (k : Modes) (one two : List Float) (x : Float) → b ≡ bands_of k one two x
-    → (length b.state_1 ≡ 24) × (length b.state_2 ≡ 24) × (length b.bands ≡ 24)
-unfolding bands_of
-bands_sizes k one two x e = (
-  ap (λ (b : Bands). length b.state_1) e ∙ length_tab 24 (λ t. (tick_in k one two x t).svf.state_1),
-  ap (λ (b : Bands). length b.state_2) e ∙ length_tab 24 (λ t. (tick_in k one two x t).svf.state_2),
-  ap (λ (b : Bands). length b.bands) e ∙ length_tab 24 (λ t. get_or k.gain t nan ⊗ (tick_in k one two x t).bp),
-)
+pub all_places : (k : Modes) (s : States) (x : Float) → FullStates s
+    → places_of 24 k (record { states = s; bands = replicate 24 c0 }) x 0 ≡ bands_of k s x
+all_places k s x z =
+    states_written (λ (s : States). places_of 24 k (record { states = s; bands = replicate 24 c0 }) x 0 ≡ bands_of k s x) (places_written k x) s z
 
 -- each band is an f32, as a product is
-bands_fit : (k : Modes) (one two : List Float) (x : Float) (t : ℕ) → T (fits binary32 (get_or (bands_of k one two x).bands t nan))
+bands_fit : (k : Modes) (s : States) (x : Float) (t : ℕ) → T (fits binary32 (get_or (bands_of k s x).bands t nan))
 unfolding bands_of
-bands_fit k one two x = tab_fits 24 (λ t. get_or k.gain t nan ⊗ (tick_in k one two x t).bp) (λ t. mul-fits binary32 (get_or k.gain t nan) (tick_in k one two x t).bp)
+bands_fit k s x = tab_fits 24 (λ t. get_or k.gain t nan ⊗ (tick_in k s x t).bp) (λ t. mul-fits binary32 (get_or k.gain t nan) (tick_in k s x t).bp)
 
--- a frame: all modes, then the sums of the batches
-pub framed : {b : Bands} {z : Float} (k : Modes) (one two : List Float) (x y : Float) → T (fits binary32 y) → b ≡ bands_of k one two x → z ≡ add_bare y b.bands
-    → ◌≡◌ {A = (List Float × List Float) × Float} ((b.state_1, b.state_2), z) (frame_of k (one, two) x y)
-framed k one two x y f e s =
-    let r = s ∙ ap (λ (b : Bands). add_bare y b.bands) e ∙ add_bare_lem (bands_of k one two x).bands (bands_fit k one two x) y f in
-    λ j. (((e j).state_1, (e j).state_2), r j)
+-- a frame: n modes, then the others, then the sums of the batches
+pub framed : {b b' : Bands} {z : Float} (k : Modes) (n : ℕ) (s : States) (x y : Float) → n ≤ 24 → FullStates s → T (fits binary32 y)
+    → b ≡ places_of (n - 0) k (record { states = s; bands = replicate 24 c0 }) x 0 → b' ≡ places_of (24 - n) k b x n → z ≡ add_bare y b'.bands
+    → ◌≡◌ {A = States × Float} (b'.states, z) (frame_of k s x y)
+framed {b} {b'} k n s x y l h f e e' v =
+    let w : Bands = record { states = s; bands = replicate 24 c0 } in
+    let p : n + (24 - n) ≡ 24 = omega (arith, l) in
+    let o : n - 0 ≡ n = omega arith in
+    let q : n ≡ 0 + n = omega arith in
+    let all : b' ≡ bands_of k s x = e'
+    ∙ ap (λ (b : Bands). places_of (24 - n) k b x n) (e ∙ ap (λ (m : ℕ). places_of m k w x 0) o)
+    ∙ ap (λ (t : ℕ). places_of (24 - n) k (places_of n k w x 0) x t) q
+    ∙ places_then n (24 - n) k w x 0
+    ∙ ap (λ (m : ℕ). places_of m k w x 0) p
+    ∙ all_places k s x h in
+    let r = v ∙ ap (λ (b : Bands). add_bare y b.bands) all ∙ add_bare_lem (bands_of k s x).bands (bands_fit k s x) y f in
+    λ j. ((all j).states, r j)
 
-pub frame_sizes : {one' two' : List Float} {z : Float} (k : Modes) (one two : List Float) (x y : Float)
-    → ◌≡◌ {A = (List Float × List Float) × Float} ((one', two'), z) (frame_of k (one, two) x y) → (length one' ≡ 24) × (length two' ≡ 24)
-frame_sizes k one two x y e =
-    let z = bands_sizes k one two x refl in
-    (ap (λ (q : (List Float × List Float) × Float). length q.0.0) e ∙ z.0, ap (λ (q : (List Float × List Float) × Float). length q.0.1) e ∙ z.1)
+-- no state is lost
+pub frame_sizes : {s' : States} {z : Float} (k : Modes) (s : States) (x y : Float)
+    → ◌≡◌ {A = States × Float} (s', z) (frame_of k s x y) → FullStates s'
+unfolding bands_of
+frame_sizes k s x y e = (
+  ap (λ (q : States × Float). length q.0.state_1) e ∙ length_tab 24 (λ t. (tick_in k s x t).svf.state_1),
+  ap (λ (q : States × Float). length q.0.state_2) e ∙ length_tab 24 (λ t. (tick_in k s x t).svf.state_2),
+)

@@ -1,7 +1,7 @@
 -- The one_pass_lem form is the batches one after the other, and what the calls of `process` ensure, put together. Assumes nothing.
 use mathlib.Core.Path.{◌≡◌, refl, sym, ◌∙◌, ap, subst}
 use mathlib.Core.List.{List, map}
-use Prim.Native.Nat.{ℕ, ◌+◌, ◌*◌}
+use Prim.Native.Nat.{ℕ, zero, suc, ◌+◌, ◌*◌}
 use lib.ListN.{get_or, length, length-map, replicate}
 use lib.Ieee.{Float, nan}
 use Rattle.ground.specs.F32.{◌⊗◌, c0, c79·7}
@@ -23,23 +23,17 @@ use Rattle.modes.specs.OnePass.{partial_at, tuned, modes_of, modes_for, mode_her
 
 -- ---- what the modes keep, in batches and side by side
 
--- six batches put to their places
-pub all_put : (fs : List Batch) {one₁ two₁ one₂ two₂ one₃ two₃ one₄ two₄ one₅ two₅ one two : List Float}
-    → ◌≡◌ {A = List Float × List Float} (one₁, two₁) (put_batch (get_or fs 0 no_batch) 0 4 (replicate 24 c0) (replicate 24 c0))
-    → ◌≡◌ {A = List Float × List Float} (one₂, two₂) (put_batch (get_or fs 1 no_batch) 1 4 one₁ two₁)
-    → ◌≡◌ {A = List Float × List Float} (one₃, two₃) (put_batch (get_or fs 2 no_batch) 2 4 one₂ two₂)
-    → ◌≡◌ {A = List Float × List Float} (one₄, two₄) (put_batch (get_or fs 3 no_batch) 3 4 one₃ two₃)
-    → ◌≡◌ {A = List Float × List Float} (one₅, two₅) (put_batch (get_or fs 4 no_batch) 16 1 one₄ two₄)
-    → ◌≡◌ {A = List Float × List Float} (one, two) (put_batch (get_or fs 5 no_batch) 20 1 one₅ two₅)
-    → ◌≡◌ {A = States} (record { state_1 = one; state_2 = two }) (states_of fs)
+-- the first n batches put to their places
+abbrev pub put_first : List Batch → ℕ → States → States
+put_first fs zero s = s
+put_first fs (suc n) s = put_batch (get_or fs n no_batch) (place_first n) (place_apart n) (put_first fs n s)
+
+pub all_put : (fs : List Batch) → put_first fs 6 (record { state_1 = replicate 24 c0; state_2 = replicate 24 c0 }) ≡ states_of fs
 unfolding states_of put_batch tab
-all_put fs e₁ e₂ e₃ e₄ e₅ e₆ =
-    let on : ℕ → List Float × List Float → List Float × List Float = λ b s. put_batch (get_or fs b no_batch) (place_first b) (place_apart b) s.0 s.1 in
-    ap (λ (s : List Float × List Float). record { state_1 = s.0; state_2 = s.1 })
-    (e₆ ∙ ap (on 5) (e₅ ∙ ap (on 4) (e₄ ∙ ap (on 3) (e₃ ∙ ap (on 2) (e₂ ∙ ap (on 1) e₁)))))
+all_put fs = refl
 
 -- and taken up again
-filters_states : (fs : List Batch) → length fs ≡ 6 → filters_of (states_of fs).state_1 (states_of fs).state_2 ≡ fs
+filters_states : (fs : List Batch) → length fs ≡ 6 → filters_of (states_of fs) ≡ fs
 unfolding filters_of batch_at states_of tab
 filters_states fs e = tab_get_d fs 6 no_batch e
 
@@ -60,29 +54,28 @@ placed m =
 
 module _ (m : ℕ → Mode) where
   -- a frame through all modes, and through each batch in turn
-  same_frame : (one two : List Float) (x y : Float)
-      → frame band_step (batched m) (filters_of one two) x y
-      ≡ (let b = bands_of (placed m) one two x in (filters_of b.state_1 b.state_2, add_batches y b.bands))
+  same_frame : (s : States) (x y : Float)
+      → frame band_step (batched m) (filters_of s) x y
+      ≡ (let b = bands_of (placed m) s x in (filters_of b.states, add_batches y b.bands))
   unfolding batched placed filters_of batch_at bands_of add_batches batch_sum tab scan
-  same_frame one two x y = refl
+  same_frame s x y = refl
 
   -- what holds at each frame of the states side by side and of the batches
-  abbrev Alike : List Float × List Float → List Batch → Type 0
-  Alike s fs = fs ≡ filters_of s.0 s.1
+  abbrev Alike : States → List Batch → Type 0
+  Alike s fs = fs ≡ filters_of s
 
-  alike_frame : (s : List Float × List Float) (fs : List Batch) (x y : Float) → Alike s fs
+  alike_frame : (s : States) (fs : List Batch) (x y : Float) → Alike s fs
       → Alike (frame_of (placed m) s x y).0 (frame band_step (batched m) fs x y).0
       × ((frame_of (placed m) s x y).1 ≡ (frame band_step (batched m) fs x y).1)
   alike_frame s fs x y a =
-      let e = ap (λ (gs : List Batch). frame band_step (batched m) gs x y) a ∙ same_frame s.0 s.1 x y in
+      let e = ap (λ (gs : List Batch). frame band_step (batched m) gs x y) a ∙ same_frame s x y in
       (ap (λ q. q.0) e, sym (ap (λ q. q.1) e))
 
   in_turn : (fs : List Batch) (xs ys : List Float) → length fs ≡ 6
       → one_pass (placed m) fs xs ys ≡ (let q = scan (block band_step xs) ys (batched m) fs in (q.1, q.0))
   unfolding one_pass
   in_turn fs xs ys h =
-      let s : List Float × List Float = ((states_of fs).state_1, (states_of fs).state_2) in
-      let a = scan_alike Alike (frame_of (placed m)) (frame band_step (batched m)) alike_frame s fs xs ys (sym (filters_states fs h)) in
+      let a = scan_alike Alike (frame_of (placed m)) (frame band_step (batched m)) alike_frame (states_of fs) fs xs ys (sym (filters_states fs h)) in
       (λ i. (sym a.0 i, a.1 i)) ∙ sym (ap (λ (q : List Float × List Batch). (q.1, q.0)) (exchange band_step (batched m) fs xs ys))
 
 module _ (f0 loss : Float) (p : Partial) (amps : List Float) where
@@ -94,17 +87,17 @@ module _ (f0 loss : Float) (p : Partial) (amps : List Float) where
   unfolding modes_of tuned placed mode_at tab
   same_modes = refl
 
-  same_batches : (one two xs ys : List Float)
-      → batches f0 loss p amps (filters_of one two) xs ys ≡ (let q = scan (block band_step xs) ys (batched mode) (filters_of one two) in (q.1, q.0))
+  same_batches : (s : States) (xs ys : List Float)
+      → batches f0 loss p amps (filters_of s) xs ys ≡ (let q = scan (block band_step xs) ys (batched mode) (filters_of s) in (q.1, q.0))
   unfolding batches in_batches batch_step modes_from batched filters_of tab scan
-  same_batches one two xs ys = refl
+  same_batches s xs ys = refl
 
   pub one_pass_lem : (fs : List Batch) (xs ys : List Float) → length fs ≡ 6
       → one_pass (modes_of (tuned amps f0 loss p)) fs xs ys ≡ batches f0 loss p amps fs xs ys
   one_pass_lem fs xs ys h =
       ap (λ (k : Modes). one_pass k fs xs ys) same_modes ∙ in_turn mode fs xs ys h
       ∙ sym (subst (λ (gs : List Batch). batches f0 loss p amps gs xs ys ≡ (let q = scan (block band_step xs) ys (batched mode) gs in (q.1, q.0)))
-      (filters_states fs h) (same_batches (states_of fs).state_1 (states_of fs).state_2 xs ys))
+      (filters_states fs h) (same_batches (states_of fs) xs ys))
 
 -- ---- the calls put together
 
@@ -119,14 +112,13 @@ pub made : (amps : List Float) (f0 structure brightness damping : Float) {stiffn
 unfolding modes_for
 made amps f0 structure brightness damping es ev eq ep el et ek = rw (ek, et, ep, el, eq, ev, es)
 
-pub ran : (k : Modes) (fs : List Batch) (xs ys : List Float) {s : States} {one two zs : List Float} {gs : List Batch}
-    → s ≡ states_of fs → ◌≡◌ {A = (List Float × List Float) × List Float} ((one, two), zs) (scan (frame_of k) (s.state_1, s.state_2) xs ys)
-    → gs ≡ filters_of one two → ◌≡◌ {A = List Batch × List Float} (gs, zs) (one_pass k fs xs ys)
+pub ran : (k : Modes) (fs : List Batch) (xs ys : List Float) {s s' : States} {zs : List Float} {gs : List Batch}
+    → s ≡ states_of fs → ◌≡◌ {A = States × List Float} (s', zs) (scan (frame_of k) s xs ys)
+    → gs ≡ filters_of s' → ◌≡◌ {A = List Batch × List Float} (gs, zs) (one_pass k fs xs ys)
 unfolding one_pass
 ran k fs xs ys es eu eg =
     rw eg
-    (ap (λ (u : (List Float × List Float) × List Float). (filters_of u.0.0 u.0.1, u.1))
-    (eu ∙ ap (λ (s : States). scan (frame_of k) (s.state_1, s.state_2) xs ys) es))
+    (ap (λ (u : States × List Float). (filters_of u.0, u.1)) (eu ∙ ap (λ (s : States). scan (frame_of k) s xs ys) es))
 
 pub processed : (r : Resonator) (f0 structure brightness damping : Float) (xs ys : List Float) {k : Modes} {fs : List Batch} {zs : List Float}
     → length r.mode_filters ≡ 6 → k ≡ modes_for r.mode_amplitude f0 structure brightness damping

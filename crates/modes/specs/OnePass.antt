@@ -1,6 +1,6 @@
 -- The one-pass form of Resonator::process: the coefficients of all modes first, then each frame through all modes. What belongs to the mode k of the
 -- batch b stands at the place 4 k + b for the batches 0 to 3, and at 4 b + k for 4 and 5. Assumes nothing.
-use Rattle.std.specs.Prelude.{Bool, false, not, ◌&&◌, ◌||◌, cond, List, ℕ, zero, suc, ◌+◌, ◌*◌, ◌/◌, ◌%◌, eqb, ltb, get_or, set, Float}
+use Rattle.std.specs.Prelude.{◌≡◌, Bool, false, not, ◌&&◌, ◌||◌, cond, List, ℕ, zero, suc, ◌+◌, ◌*◌, ◌/◌, ◌%◌, eqb, ltb, get_or, length, set, Float}
 use Rattle.std.specs.Float.{nan}
 use Rattle.std.specs.Float.Ieee.{lt}
 use Rattle.ground.specs.F32.{◌⊕◌, ◌⊗◌, c0, c79·7}
@@ -70,11 +70,12 @@ place_apart b = cond (ltb b 4) 4 1
 abbrev pub put_four : Float → Float → Float → Float → ℕ → ℕ → List Float → List Float
 put_four p q r s a d xs = set (set (set (set xs a p) (a + d) q) (a + 2 * d) r) (a + 3 * d) s
 
-unfoldable pub put_batch : Batch → ℕ → ℕ → List Float → List Float → List Float × List Float
-put_batch f a d one two = (
-  put_four f.mode_0.state_1 f.mode_1.state_1 f.mode_2.state_1 f.mode_3.state_1 a d one,
-  put_four f.mode_0.state_2 f.mode_1.state_2 f.mode_2.state_2 f.mode_3.state_2 a d two,
-)
+unfoldable pub put_batch : Batch → ℕ → ℕ → States → States
+put_batch f a d s =
+    record {
+      state_1 = put_four f.mode_0.state_1 f.mode_1.state_1 f.mode_2.state_1 f.mode_3.state_1 a d s.state_1;
+      state_2 = put_four f.mode_0.state_2 f.mode_1.state_2 f.mode_2.state_2 f.mode_3.state_2 a d s.state_2;
+    }
 
 -- what stands past the end of a list of batches
 abbrev pub no_batch : Batch
@@ -89,77 +90,73 @@ states_of fs =
     }
 
 -- and back
-abbrev pub state_at : List Float → List Float → ℕ → ResonatorSvf
-state_at one two t = record { state_1 = get_or one t nan; state_2 = get_or two t nan }
+abbrev pub state_at : States → ℕ → ResonatorSvf
+state_at s t = record { state_1 = get_or s.state_1 t nan; state_2 = get_or s.state_2 t nan }
 
-unfoldable pub batch_at : List Float → List Float → ℕ → ℕ → Batch
-batch_at one two a d =
-    record { mode_0 = state_at one two a; mode_1 = state_at one two (a + d); mode_2 = state_at one two (a + 2 * d); mode_3 = state_at one two (a + 3 * d) }
+unfoldable pub batch_at : States → ℕ → ℕ → Batch
+batch_at s a d = record { mode_0 = state_at s a; mode_1 = state_at s (a + d); mode_2 = state_at s (a + 2 * d); mode_3 = state_at s (a + 3 * d) }
 
-unfoldable pub filters_of : List Float → List Float → List Batch
-filters_of one two = tab 6 (λ b. batch_at one two (place_first b) (place_apart b))
+unfoldable pub filters_of : States → List Batch
+filters_of s = tab 6 (λ b. batch_at s (place_first b) (place_apart b))
+
+-- all 24 modes have states
+abbrev pub FullStates : States → Type 0
+FullStates s = (length s.state_1 ≡ 24) × (length s.state_2 ≡ 24)
 
 -- ---- a frame
 
 pub record Bands : Type 0 where
-  pub state_1 : List Float
-  pub state_2 : List Float
+  pub states : States
   pub bands : List Float
 
 abbrev pub mode_in : Modes → ℕ → Mode
 mode_in k t = record { g = get_or k.g t nan; r_plus_g = get_or k.r_plus_g t nan; h = get_or k.h t nan; gain = get_or k.gain t nan }
 
 -- the sample through the mode at a place, and through all
-abbrev pub tick_in : Modes → List Float → List Float → Float → ℕ → Ticked
-tick_in k one two x t = tick_of (mode_in k t) (state_at one two t) x
+abbrev pub tick_in : Modes → States → Float → ℕ → Ticked
+tick_in k s x t = tick_of (mode_in k t) (state_at s t) x
 
-unfoldable pub bands_of : Modes → List Float → List Float → Float → Bands
-bands_of k one two x =
+unfoldable pub bands_of : Modes → States → Float → Bands
+bands_of k s x =
     record {
-      state_1 = tab 24 (λ t. (tick_in k one two x t).svf.state_1);
-      state_2 = tab 24 (λ t. (tick_in k one two x t).svf.state_2);
-      bands = tab 24 (λ t. get_or k.gain t nan ⊗ (tick_in k one two x t).bp);
+      states = record { state_1 = tab 24 (λ t. (tick_in k s x t).svf.state_1); state_2 = tab 24 (λ t. (tick_in k s x t).svf.state_2) };
+      bands = tab 24 (λ t. get_or k.gain t nan ⊗ (tick_in k s x t).bp);
     }
+
+-- what a mode keeps, put to its place
+abbrev pub put_state : ResonatorSvf → ℕ → States → States
+put_state m t s = record { state_1 = set s.state_1 t m.state_1; state_2 = set s.state_2 t m.state_2 }
 
 -- the sample through the mode at a place alone, and through n from a place on
 abbrev pub place_of : Modes → Bands → Float → ℕ → Bands
 place_of k b x t =
-    let o = tick_in k b.state_1 b.state_2 x t in
-    record {
-      state_1 = set b.state_1 t o.svf.state_1;
-      state_2 = set b.state_2 t o.svf.state_2;
-      bands = set b.bands t (get_or k.gain t nan ⊗ o.bp);
-    }
+    let o = tick_in k b.states x t in
+    record { states = put_state o.svf t b.states; bands = set b.bands t (get_or k.gain t nan ⊗ o.bp) }
 
 abbrev pub places_of : ℕ → Modes → Bands → Float → ℕ → Bands
 places_of zero k b x t = b
 places_of (suc n) k b x t = places_of n k (place_of k b x t) x (t + 1)
 
 -- whether a mode of four from a place on is small, or of the last 8
-abbrev pub small_four : List Float → List Float → ℕ → Bool
-small_four one two t =
-    is_small (state_at one two t) || is_small (state_at one two (t + 1)) || is_small (state_at one two (t + 2)) || is_small (state_at one two (t + 3))
+abbrev pub small_four : States → ℕ → Bool
+small_four s t = is_small (state_at s t) || is_small (state_at s (t + 1)) || is_small (state_at s (t + 2)) || is_small (state_at s (t + 3))
 
-unfoldable pub rests_of : List Float → List Float → Bool
-rests_of one two = small_four one two 16 || small_four one two 20
+unfoldable pub rests_of : States → Bool
+rests_of s = small_four s 16 || small_four s 20
 
 -- where small modes are, for a sample that is small
-unfoldable pub quiet_of : List Float → List Float → Float → Quiet
-quiet_of one two x =
+unfoldable pub quiet_of : States → Float → Quiet
+quiet_of s x =
     cond (not (lt x small_plus && lt small_minus x))
     (record { low = false; high = false })
     (record {
-      low = small_four one two 0 || small_four one two 4 || small_four one two 8 || small_four one two 12;
-      high = rests_of one two;
+      low = small_four s 0 || small_four s 4 || small_four s 8 || small_four s 12;
+      high = rests_of s;
     })
 
 -- the same at each 16th frame
-unfoldable pub quiet_at : Quiet → List Float → List Float → Float → ℕ → Quiet
-quiet_at quiet one two x i = cond (eqb (i % 16) 0) (quiet_of one two x) quiet
-
--- how many modes are not tested
-abbrev pub plain_of : Bool → ℕ
-plain_of low = cond low 0 16
+unfoldable pub quiet_at : Quiet → States → Float → ℕ → Quiet
+quiet_at quiet s x i = cond (eqb (i % 16) 0) (quiet_of s x) quiet
 
 -- the sum of the batch that stands at a and each d on, and all sums added to y in turn
 unfoldable pub batch_sum : List Float → ℕ → ℕ → Float
@@ -176,11 +173,8 @@ bare_sum p a d = get_or p a nan ⊕ get_or p (a + d) nan ⊕ get_or p (a + 2 * d
 unfoldable pub add_bare : Float → List Float → Float
 add_bare y p = y ⊕ c0 ⊕ bare_sum p 0 4 ⊕ bare_sum p 1 4 ⊕ bare_sum p 2 4 ⊕ bare_sum p 3 4 ⊕ bare_sum p 16 1 ⊕ bare_sum p 20 1
 
-abbrev pub frame_of : Modes → List Float × List Float → Float → Float → (List Float × List Float) × Float
-frame_of k s x y = let b = bands_of k s.0 s.1 x in ((b.state_1, b.state_2), add_batches y b.bands)
+abbrev pub frame_of : Modes → States → Float → Float → States × Float
+frame_of k s x y = let b = bands_of k s x in (b.states, add_batches y b.bands)
 
 unfoldable pub one_pass : Modes → List Batch → List Float → List Float → List Batch × List Float
-one_pass k fs xs ys =
-    let s = states_of fs in
-    let u = scan (frame_of k) (s.state_1, s.state_2) xs ys in
-    (filters_of u.0.0 u.0.1, u.1)
+one_pass k fs xs ys = let u = scan (frame_of k) (states_of fs) xs ys in (filters_of u.0, u.1)

@@ -4,7 +4,7 @@ ghost use Rattle.std.specs.Float.Ieee.{lt};
 ghost use Rattle.ground.specs.F32.{◌⊗◌, c0, c0·93, c0·98};
 ghost use Rattle.modes.specs.Subnormal.{is_small};
 ghost use Rattle.modes.specs.Resonator.{svf_new, mode_of, tick_of, low_block, filters_new, resonator_new, resonator_init, cap_of, shrunk, next_of, compensation, first_of, loss_of, process_of};
-ghost use Rattle.modes.specs.OnePass.{tuned, mode_here, modes_of, modes_for, put_batch, states_of, state_at, batch_at, filters_of, Bands, bands_of, places_of, small_four, rests_of, quiet_of, quiet_at, plain_of, bare_sum, add_bare, frame_of, one_pass};
+ghost use Rattle.modes.specs.OnePass.{tuned, mode_here, modes_of, modes_for, place_first, place_apart, put_batch, states_of, state_at, put_state, batch_at, filters_of, FullStates, mode_in, place_of, places_of, small_four, rests_of, quiet_of, quiet_at, bare_sum, add_bare, frame_of, one_pass};
 
 use crate::subnormal::product;
 use utils::filter::FrequencyApproximation;
@@ -113,14 +113,11 @@ impl ResonatorSvf {
         ensures { (result, out.new) ≡ low_block (mode_of f q gain) self in_.now out.old }
     {
         let k = mode_of(f, q, gain);
-        let n = utils::min_usize(in_.len(), out.len());
         let mut svf = self;
-        let mut i = 0;
-        while i < n {
-            let t = tick(k, svf, in_[i]);
+        for i in 0..in_.len().min(out.len()) {
+            let t = tick::<false>(k, svf, in_[i]);
             out[i] = 0.0 + k.gain * t.lp;
             svf = t.svf;
-            i += 1;
         }
         svf
     }
@@ -139,21 +136,6 @@ pub fn mode_of(f: f32, q: f32, gain: f32) -> Mode
     }
 }
 
-pub fn tick(k: Mode, s: ResonatorSvf, x: f32) -> Ticked
-    ensures { result ≡ tick_of k s x }
-{
-    let hp = (x - k.r_plus_g * s.state_1 - s.state_2) * k.h;
-    let bp = k.g * hp + s.state_1;
-    let lp = k.g * bp + s.state_2;
-    let svf = ResonatorSvf {
-        state_1: k.g * hp + bp,
-        state_2: k.g * bp + lp,
-    };
-    Ticked { svf, bp, lp }
-}
-
-// ---- where numbers may be subnormal
-
 // Whether products of what a mode keeps may be subnormal.
 pub fn is_small(s: ResonatorSvf) -> bool
     ensures { result ≡ is_small s }
@@ -161,15 +143,22 @@ pub fn is_small(s: ResonatorSvf) -> bool
     (s.state_1 < 1.0e-35) & (s.state_1 > -1.0e-35) & (s.state_2 < 1.0e-35) & (s.state_2 > -1.0e-35)
 }
 
-// `tick`, its products taken as if they were subnormal.
-fn tick_small(k: Mode, s: ResonatorSvf, x: f32) -> Ticked
+// The product of a and b; at SMALL as if it were subnormal.
+fn times<const SMALL: bool>(a: f32, b: f32) -> f32
+    ensures { result ≡ a ⊗ b }
+{
+    if SMALL { product(a, b) } else { a * b }
+}
+
+// A sample through a mode; at SMALL its products are taken as if they were subnormal.
+fn tick<const SMALL: bool>(k: Mode, s: ResonatorSvf, x: f32) -> Ticked
     ensures { result ≡ tick_of k s x }
 {
-    let r = product(k.r_plus_g, s.state_1);
-    let hp = product(x - r - s.state_2, k.h);
-    let g_hp = product(k.g, hp);
+    let r = times::<SMALL>(k.r_plus_g, s.state_1);
+    let hp = times::<SMALL>(x - r - s.state_2, k.h);
+    let g_hp = times::<SMALL>(k.g, hp);
     let bp = g_hp + s.state_1;
-    let g_bp = product(k.g, bp);
+    let g_bp = times::<SMALL>(k.g, bp);
     let lp = g_bp + s.state_2;
     let svf = ResonatorSvf {
         state_1: g_hp + bp,
@@ -178,24 +167,26 @@ fn tick_small(k: Mode, s: ResonatorSvf, x: f32) -> Ticked
     Ticked { svf, bp, lp }
 }
 
-// The one or the other.
+// `tick`, told when the program runs whether the mode is small.
 pub fn tick_at(small: bool, k: Mode, s: ResonatorSvf, x: f32) -> Ticked
     ensures { result ≡ tick_of k s x }
 {
     if small {
-        return tick_small(k, s, x);
+        tick::<true>(k, s, x)
+    } else {
+        tick::<false>(k, s, x)
     }
-    tick(k, s, x)
 }
 
-// A gain times a sample; at `small` as if the product were subnormal.
+// A gain times a sample, told the same.
 pub fn scale(small: bool, gain: f32, sample: f32) -> f32
     ensures { result ≡ gain ⊗ sample }
 {
     if small {
-        return product(gain, sample);
+        times::<true>(gain, sample)
+    } else {
+        times::<false>(gain, sample)
     }
-    gain * sample
 }
 
 // ---- the modes of a block
@@ -243,11 +234,9 @@ fn nth_harmonic_compensation(n: usize, stiffness: f32) -> f32
 {
     let mut stretch_factor = 1.0f32;
     let mut s = stiffness;
-    let mut i = 0;
-    while i < n - 1 {
+    for _ in 0..n - 1 {
         stretch_factor += s;
         s = shrink(s);
-        i += 1;
     }
     1.0 / stretch_factor
 }
@@ -278,14 +267,12 @@ fn tune(mode_amplitude: [f32; 24], f0: f32, q_loss: f32, first: Partial) -> Tune
     let mut a = [0.0f32; 24];
     let factor = shrinkage(first.stiffness);
     let mut p = first;
-    let mut i = 0;
-    while i < 24 {
+    for i in 0..24 {
         let mode_frequency = cap(p.harmonic * p.stretch_factor);
         f[i] = mode_frequency;
         q[i] = 1.0 + mode_frequency * p.q;
         a[i] = mode_amplitude[i] * (1.0 - mode_frequency * 2.0);
         p = next_partial(f0, q_loss, factor, p);
-        i += 1;
     }
     Tuned { f, q, a }
 }
@@ -305,29 +292,21 @@ fn mode_here(t: usize) -> usize
 fn modes_of(t: Tuned) -> Modes
     ensures { result ≡ modes_of t }
 {
-    let f = t.f;
-    let q = t.q;
-    let a = t.a;
-    let mut g = [0.0f32; 24];
-    let mut r_plus_g = [0.0f32; 24];
-    let mut h = [0.0f32; 24];
-    let mut gain = [0.0f32; 24];
-    let mut i = 0;
-    while i < 24 {
+    let mut modes = Modes {
+        g: [0.0; 24],
+        r_plus_g: [0.0; 24],
+        h: [0.0; 24],
+        gain: [0.0; 24],
+    };
+    for i in 0..24 {
         let m = mode_here(i);
-        let k = mode_of(f[m], q[m], a[m]);
-        g[i] = k.g;
-        r_plus_g[i] = k.r_plus_g;
-        h[i] = k.h;
-        gain[i] = k.gain;
-        i += 1;
+        let k = mode_of(t.f[m], t.q[m], t.a[m]);
+        modes.g[i] = k.g;
+        modes.r_plus_g[i] = k.r_plus_g;
+        modes.h[i] = k.h;
+        modes.gain[i] = k.gain;
     }
-    Modes {
-        g,
-        r_plus_g,
-        h,
-        gain,
-    }
+    modes
 }
 
 pub fn modes_for(
@@ -349,356 +328,223 @@ pub fn modes_for(
 
 // ---- what the modes keep, in batches and side by side
 
-// A batch's states to their places, the first of them and each `apart` from the one before.
-fn put_batch(
-    batch: Batch,
-    first: usize,
-    apart: usize,
-    state_1: &mut [f32; 24],
-    state_2: &mut [f32; 24],
-)
-    requires { first + 3 * apart < 24 }
-    ensures { (state_1.new, state_2.new) ≡ put_batch batch first apart state_1.old state_2.old }
+// Where a batch's modes stand: the place of its first, and how far the next one stands from it.
+fn place_first(b: usize) -> usize
+    requires { b < 6 }
+    ensures { result ≡ place_first b }
 {
-    state_1[first] = batch.mode_0.state_1;
-    state_1[first + apart] = batch.mode_1.state_1;
-    state_1[first + 2 * apart] = batch.mode_2.state_1;
-    state_1[first + 3 * apart] = batch.mode_3.state_1;
-    state_2[first] = batch.mode_0.state_2;
-    state_2[first + apart] = batch.mode_1.state_2;
-    state_2[first + 2 * apart] = batch.mode_2.state_2;
-    state_2[first + 3 * apart] = batch.mode_3.state_2;
+    if b < 4 { b } else { 4 * b }
 }
 
-pub fn states_of(mode_filters: [Batch; 6]) -> States
-    ensures { result ≡ states_of mode_filters }
+fn place_apart(b: usize) -> usize
+    ensures { result ≡ place_apart b }
 {
-    let mut state_1 = [0.0f32; 24];
-    let mut state_2 = [0.0f32; 24];
-    put_batch(mode_filters[0], 0, 4, &mut state_1, &mut state_2);
-    put_batch(mode_filters[1], 1, 4, &mut state_1, &mut state_2);
-    put_batch(mode_filters[2], 2, 4, &mut state_1, &mut state_2);
-    put_batch(mode_filters[3], 3, 4, &mut state_1, &mut state_2);
-    put_batch(mode_filters[4], 16, 1, &mut state_1, &mut state_2);
-    put_batch(mode_filters[5], 20, 1, &mut state_1, &mut state_2);
-    States { state_1, state_2 }
+    if b < 4 { 4 } else { 1 }
 }
 
-fn mode_at(state_1: &[f32; 24], state_2: &[f32; 24], t: usize) -> ResonatorSvf
-    requires { t < 24 }
-    ensures { result ≡ state_at state_1.now state_2.now t }
-{
-    ResonatorSvf {
-        state_1: state_1[t],
-        state_2: state_2[t],
+impl States {
+    // What the mode at a place keeps.
+    fn mode_at(&self, t: usize) -> ResonatorSvf
+        requires { t < 24 }
+        ensures { result ≡ state_at self.now t }
+    {
+        ResonatorSvf {
+            state_1: self.state_1[t],
+            state_2: self.state_2[t],
+        }
+    }
+
+    // It put to its place.
+    fn put(&mut self, t: usize, mode: ResonatorSvf)
+        requires { t < 24 }
+        ensures { self.new ≡ put_state mode t self.old }
+    {
+        self.state_1[t] = mode.state_1;
+        self.state_2[t] = mode.state_2;
+    }
+
+    // A batch's states to their places, the first of them and each `apart` from the one before.
+    fn put_batch(&mut self, batch: Batch, first: usize, apart: usize)
+        requires { first + 3 * apart < 24 }
+        ensures { self.new ≡ put_batch batch first apart self.old }
+    {
+        self.put(first, batch.mode_0);
+        self.put(first + apart, batch.mode_1);
+        self.put(first + 2 * apart, batch.mode_2);
+        self.put(first + 3 * apart, batch.mode_3);
+    }
+
+    fn batch_at(&self, first: usize, apart: usize) -> Batch
+        requires { first + 3 * apart < 24 }
+        ensures { result ≡ batch_at self.now first apart }
+    {
+        Batch {
+            mode_0: self.mode_at(first),
+            mode_1: self.mode_at(first + apart),
+            mode_2: self.mode_at(first + 2 * apart),
+            mode_3: self.mode_at(first + 3 * apart),
+        }
+    }
+
+    // Whether one of four modes from i on is small.
+    fn any_small(&self, i: usize) -> bool
+        requires { i + 4 ≤ 24 }
+        ensures { result ≡ small_four self.now i }
+    {
+        let mut small = false;
+        for t in i..i + 4 {
+            small |= is_small(self.mode_at(t));
+        }
+        small
+    }
+
+    // Whether one of the last 8 modes is.
+    pub fn rests(&self) -> bool
+        ensures said { result ≡ rests_of self.now }
+        ensures full { FullStates self.now }
+    {
+        self.any_small(16) | self.any_small(20)
+    }
+
+    // Where small modes are, for a sample that is small.
+    fn quiet_of(&self, x: f32) -> Quiet
+        ensures { result ≡ quiet_of self.now x }
+    {
+        if !((x < 1.0e-35) & (x > -1.0e-35)) {
+            return Quiet {
+                low: false,
+                high: false,
+            };
+        }
+        Quiet {
+            low: self.any_small(0) | self.any_small(4) | self.any_small(8) | self.any_small(12),
+            high: self.rests(),
+        }
+    }
+
+    // The same at each 16th frame; at the others it stands.
+    pub fn quiet_at(&self, quiet: Quiet, x: f32, i: usize) -> Quiet
+        ensures { result ≡ quiet_at quiet self.now x i }
+    {
+        if i % 16 == 0 {
+            return self.quiet_of(x);
+        }
+        quiet
     }
 }
 
-fn batch_at(state_1: &[f32; 24], state_2: &[f32; 24], first: usize, apart: usize) -> Batch
-    requires { first + 3 * apart < 24 }
-    ensures { result ≡ batch_at state_1.now state_2.now first apart }
-{
-    let mode_0 = mode_at(state_1, state_2, first);
-    let mode_1 = mode_at(state_1, state_2, first + apart);
-    let mode_2 = mode_at(state_1, state_2, first + 2 * apart);
-    let mode_3 = mode_at(state_1, state_2, first + 3 * apart);
-    Batch {
-        mode_0,
-        mode_1,
-        mode_2,
-        mode_3,
+// The states of all batches, each at its place.
+impl From<[Batch; 6]> for States {
+    ghost from_gives = { λ fs s. s ≡ states_of fs };
+
+    fn from(mode_filters: [Batch; 6]) -> States {
+        let mut states = States {
+            state_1: [0.0; 24],
+            state_2: [0.0; 24],
+        };
+        for b in 0..6 {
+            states.put_batch(mode_filters[b], place_first(b), place_apart(b));
+        }
+        states
     }
 }
 
-pub fn filters_of(state_1: &[f32; 24], state_2: &[f32; 24]) -> [Batch; 6]
-    ensures { result ≡ filters_of state_1.now state_2.now }
-{
-    [
-        batch_at(state_1, state_2, 0, 4),
-        batch_at(state_1, state_2, 1, 4),
-        batch_at(state_1, state_2, 2, 4),
-        batch_at(state_1, state_2, 3, 4),
-        batch_at(state_1, state_2, 16, 1),
-        batch_at(state_1, state_2, 20, 1),
-    ]
+// And back.
+impl From<States> for [Batch; 6] {
+    ghost from_gives = { λ s fs. fs ≡ filters_of s };
+
+    fn from(states: States) -> [Batch; 6] {
+        [
+            states.batch_at(0, 4),
+            states.batch_at(1, 4),
+            states.batch_at(2, 4),
+            states.batch_at(3, 4),
+            states.batch_at(16, 1),
+            states.batch_at(20, 1),
+        ]
+    }
 }
 
 // ---- a frame
 
-// A sample through all modes: their states, and what is heard of each.
-pub fn tick_all(
-    g: &[f32; 24],
-    r_plus_g: &[f32; 24],
-    h: &[f32; 24],
-    gain: &[f32; 24],
-    state_1: &mut [f32; 24],
-    state_2: &mut [f32; 24],
-    bands: &mut [f32; 24],
-    x: f32,
-)
-    requires { (length state_1.old ≡ 24) × (length state_2.old ≡ 24) × (length bands.old ≡ 24) }
-    ensures { record { state_1 = state_1.new; state_2 = state_2.new; bands = bands.new } ≡ bands_of (record { g = g.now; r_plus_g = r_plus_g.now; h = h.now; gain = gain.now }) state_1.old state_2.old x }
-{
-    let mut i = 0;
-    while i < 24 {
-        let k = Mode {
-            g: g[i],
-            r_plus_g: r_plus_g[i],
-            h: h[i],
-            gain: gain[i],
-        };
-        let s = ResonatorSvf {
-            state_1: state_1[i],
-            state_2: state_2[i],
-        };
-        let t = tick(k, s, x);
-        state_1[i] = t.svf.state_1;
-        state_2[i] = t.svf.state_2;
-        bands[i] = k.gain * t.bp;
-        i += 1;
+impl Modes {
+    // The coefficients of the mode at a place.
+    fn mode_at(&self, t: usize) -> Mode
+        requires { t < 24 }
+        ensures { result ≡ mode_in self.now t }
+    {
+        Mode {
+            g: self.g[t],
+            r_plus_g: self.r_plus_g[t],
+            h: self.h[t],
+            gain: self.gain[t],
+        }
     }
-}
 
-// Whether one of four modes from i on is small.
-fn any_small(state_1: &[f32; 24], state_2: &[f32; 24], i: usize) -> bool
-    requires { i + 4 ≤ 24 }
-    ensures { result ≡ small_four state_1.now state_2.now i }
-{
-    is_small(mode_at(state_1, state_2, i))
-        | is_small(mode_at(state_1, state_2, i + 1))
-        | is_small(mode_at(state_1, state_2, i + 2))
-        | is_small(mode_at(state_1, state_2, i + 3))
-}
-
-// Whether one of the last 8 modes is.
-pub fn rests(state_1: &[f32; 24], state_2: &[f32; 24]) -> bool
-    ensures { result ≡ rests_of state_1.now state_2.now }
-{
-    any_small(state_1, state_2, 16) | any_small(state_1, state_2, 20)
-}
-
-// Where small modes are, for a sample that is small.
-fn quiet_of(state_1: &[f32; 24], state_2: &[f32; 24], x: f32) -> Quiet
-    ensures { result ≡ quiet_of state_1.now state_2.now x }
-{
-    if !((x < 1.0e-35) & (x > -1.0e-35)) {
-        return Quiet {
-            low: false,
-            high: false,
-        };
+    // A sample through the mode at a place, and what is heard of it; at SMALL the products are taken as if they were subnormal.
+    #[inline(always)]
+    fn tick_place<const SMALL: bool>(
+        &self,
+        states: &mut States,
+        bands: &mut [f32; 24],
+        x: f32,
+        t: usize,
+    )
+        requires { t < 24 }
+        ensures { record { states = states.new; bands = bands.new } ≡ place_of self.now (record { states = states.old; bands = bands.old }) x t }
+    {
+        let k = self.mode_at(t);
+        let o = tick::<SMALL>(k, states.mode_at(t), x);
+        states.put(t, o.svf);
+        bands[t] = times::<SMALL>(k.gain, o.bp);
     }
-    Quiet {
-        low: any_small(state_1, state_2, 0)
-            | any_small(state_1, state_2, 4)
-            | any_small(state_1, state_2, 8)
-            | any_small(state_1, state_2, 12),
-        high: rests(state_1, state_2),
+
+    // A sample through the modes from i on and below `end`, each of them tested at TESTED.
+    #[inline(always)]
+    pub fn tick_places<const TESTED: bool>(
+        &self,
+        states: &mut States,
+        bands: &mut [f32; 24],
+        x: f32,
+        i: usize,
+        end: usize,
+    )
+        requires { (i ≤ end) × (end ≤ 24) }
+        ensures { record { states = states.new; bands = bands.new } ≡ places_of (end - i) self.now (record { states = states.old; bands = bands.old }) x i }
+    {
+        for t in i..end {
+            if TESTED && is_small(states.mode_at(t)) {
+                self.tick_place::<true>(states, bands, x, t);
+            } else {
+                self.tick_place::<false>(states, bands, x, t);
+            }
+        }
     }
-}
 
-// The same at each 16th frame; at the others it stands.
-pub fn quiet_at(quiet: Quiet, state_1: &[f32; 24], state_2: &[f32; 24], x: f32, i: usize) -> Quiet
-    ensures { result ≡ quiet_at quiet state_1.now state_2.now x i }
-{
-    if i % 16 == 0 {
-        return quiet_of(state_1, state_2, x);
+    // A frame: the modes at the first UNTESTED places as they come, the others each tested, then every sum.
+    #[inline(always)]
+    pub fn frame<const UNTESTED: usize>(&self, states: &mut States, x: f32, y: f32) -> f32
+        requires { UNTESTED ≤ 24 }
+        ensures { (states.new, result) ≡ frame_of self.now states.old x y }
+    {
+        let mut bands = [0.0f32; 24];
+        self.tick_places::<false>(states, &mut bands, x, 0, UNTESTED);
+        self.tick_places::<true>(states, &mut bands, x, UNTESTED, 24);
+        add_batches(y, &bands)
     }
-    quiet
-}
 
-// A sample through the modes from i on and below `end`.
-pub fn tick_places(
-    g: &[f32; 24],
-    r_plus_g: &[f32; 24],
-    h: &[f32; 24],
-    gain: &[f32; 24],
-    state_1: &mut [f32; 24],
-    state_2: &mut [f32; 24],
-    bands: &mut [f32; 24],
-    x: f32,
-    i: usize,
-    end: usize,
-)
-    requires { (i ≤ end) × (end ≤ 24) }
-    ensures { record { state_1 = state_1.new; state_2 = state_2.new; bands = bands.new } ≡ places_of (end - i) (record { g = g.now; r_plus_g = r_plus_g.now; h = h.now; gain = gain.now }) (record { state_1 = state_1.old; state_2 = state_2.old; bands = bands.old }) x i }
-{
-    let mut j = i;
-    while j < end {
-        let k = Mode {
-            g: g[j],
-            r_plus_g: r_plus_g[j],
-            h: h[j],
-            gain: gain[j],
-        };
-        let s = ResonatorSvf {
-            state_1: state_1[j],
-            state_2: state_2[j],
-        };
-        let t = tick(k, s, x);
-        state_1[j] = t.svf.state_1;
-        state_2[j] = t.svf.state_2;
-        bands[j] = k.gain * t.bp;
-        j += 1;
+    // A frame, the modes tested where small ones may be.
+    pub fn frame_at(&self, quiet: Quiet, states: &mut States, x: f32, y: f32) -> f32
+        ensures { (states.new, result) ≡ frame_of self.now states.old x y }
+    {
+        if quiet.low {
+            return self.frame::<0>(states, x, y);
+        }
+        if quiet.high {
+            return self.frame::<16>(states, x, y);
+        }
+        self.frame::<24>(states, x, y)
     }
-}
-
-// The same, each tested.
-fn tick_each(
-    g: &[f32; 24],
-    r_plus_g: &[f32; 24],
-    h: &[f32; 24],
-    gain: &[f32; 24],
-    state_1: &mut [f32; 24],
-    state_2: &mut [f32; 24],
-    bands: &mut [f32; 24],
-    x: f32,
-    i: usize,
-    end: usize,
-)
-    requires { (i ≤ end) × (end ≤ 24) }
-    ensures { record { state_1 = state_1.new; state_2 = state_2.new; bands = bands.new } ≡ places_of (end - i) (record { g = g.now; r_plus_g = r_plus_g.now; h = h.now; gain = gain.now }) (record { state_1 = state_1.old; state_2 = state_2.old; bands = bands.old }) x i }
-{
-    let mut j = i;
-    while j < end {
-        let k = Mode {
-            g: g[j],
-            r_plus_g: r_plus_g[j],
-            h: h[j],
-            gain: gain[j],
-        };
-        let s = ResonatorSvf {
-            state_1: state_1[j],
-            state_2: state_2[j],
-        };
-        let small = is_small(s);
-        let t = tick_at(small, k, s, x);
-        state_1[j] = t.svf.state_1;
-        state_2[j] = t.svf.state_2;
-        bands[j] = scale(small, k.gain, t.bp);
-        j += 1;
-    }
-}
-
-// How many modes are not tested.
-fn untested(low: bool) -> usize
-    ensures { result ≡ plain_of low }
-{
-    if low {
-        return 0;
-    }
-    16
-}
-
-// A sample through those.
-fn tick_untested(
-    low: bool,
-    g: &[f32; 24],
-    r_plus_g: &[f32; 24],
-    h: &[f32; 24],
-    gain: &[f32; 24],
-    state_1: &mut [f32; 24],
-    state_2: &mut [f32; 24],
-    bands: &mut [f32; 24],
-    x: f32,
-)
-    ensures { record { state_1 = state_1.new; state_2 = state_2.new; bands = bands.new } ≡ places_of (plain_of low) (record { g = g.now; r_plus_g = r_plus_g.now; h = h.now; gain = gain.now }) (record { state_1 = state_1.old; state_2 = state_2.old; bands = bands.old }) x 0 }
-{
-    if low {
-        return;
-    }
-    tick_places(g, r_plus_g, h, gain, state_1, state_2, bands, x, 0, 16);
-}
-
-// `tick_all`, the first 16 modes tested at `low` only.
-fn tick_tested(
-    low: bool,
-    g: &[f32; 24],
-    r_plus_g: &[f32; 24],
-    h: &[f32; 24],
-    gain: &[f32; 24],
-    state_1: &mut [f32; 24],
-    state_2: &mut [f32; 24],
-    bands: &mut [f32; 24],
-    x: f32,
-)
-    requires { (length state_1.old ≡ 24) × (length state_2.old ≡ 24) × (length bands.old ≡ 24) }
-    ensures { record { state_1 = state_1.new; state_2 = state_2.new; bands = bands.new } ≡ bands_of (record { g = g.now; r_plus_g = r_plus_g.now; h = h.now; gain = gain.now }) state_1.old state_2.old x }
-{
-    tick_untested(low, g, r_plus_g, h, gain, state_1, state_2, bands, x);
-    tick_each(
-        g,
-        r_plus_g,
-        h,
-        gain,
-        state_1,
-        state_2,
-        bands,
-        x,
-        untested(low),
-        24,
-    );
-}
-
-// A frame, none of whose modes is tested.
-pub fn frame_loud(
-    g: &[f32; 24],
-    r_plus_g: &[f32; 24],
-    h: &[f32; 24],
-    gain: &[f32; 24],
-    state_1: &mut [f32; 24],
-    state_2: &mut [f32; 24],
-    x: f32,
-    y: f32,
-) -> f32
-    requires { (length state_1.old ≡ 24) × (length state_2.old ≡ 24) }
-    ensures { ((state_1.new, state_2.new), result) ≡ frame_of (record { g = g.now; r_plus_g = r_plus_g.now; h = h.now; gain = gain.now }) (state_1.old, state_2.old) x y }
-{
-    let mut bands = [0.0f32; 24];
-    tick_all(g, r_plus_g, h, gain, state_1, state_2, &mut bands, x);
-    add_batches(y, &bands)
-}
-
-// A frame with small modes.
-fn frame_quiet(
-    low: bool,
-    g: &[f32; 24],
-    r_plus_g: &[f32; 24],
-    h: &[f32; 24],
-    gain: &[f32; 24],
-    state_1: &mut [f32; 24],
-    state_2: &mut [f32; 24],
-    x: f32,
-    y: f32,
-) -> f32
-    requires { (length state_1.old ≡ 24) × (length state_2.old ≡ 24) }
-    ensures { ((state_1.new, state_2.new), result) ≡ frame_of (record { g = g.now; r_plus_g = r_plus_g.now; h = h.now; gain = gain.now }) (state_1.old, state_2.old) x y }
-{
-    let mut bands = [0.0f32; 24];
-    tick_tested(low, g, r_plus_g, h, gain, state_1, state_2, &mut bands, x);
-    add_batches(y, &bands)
-}
-
-// The one or the other; the one without is written out, since the compiler leaves a second call of `frame_loud` a call.
-pub fn frame(
-    quiet: Quiet,
-    g: &[f32; 24],
-    r_plus_g: &[f32; 24],
-    h: &[f32; 24],
-    gain: &[f32; 24],
-    state_1: &mut [f32; 24],
-    state_2: &mut [f32; 24],
-    x: f32,
-    y: f32,
-) -> f32
-    requires { (length state_1.old ≡ 24) × (length state_2.old ≡ 24) }
-    ensures { ((state_1.new, state_2.new), result) ≡ frame_of (record { g = g.now; r_plus_g = r_plus_g.now; h = h.now; gain = gain.now }) (state_1.old, state_2.old) x y }
-{
-    if quiet.low | quiet.high {
-        return frame_quiet(quiet.low, g, r_plus_g, h, gain, state_1, state_2, x, y);
-    }
-    let mut bands = [0.0f32; 24];
-    tick_all(g, r_plus_g, h, gain, state_1, state_2, &mut bands, x);
-    add_batches(y, &bands)
 }
 
 // The sum of a batch.
@@ -723,33 +569,14 @@ pub fn add_batches(y: f32, bands: &[f32; 24]) -> f32
 }
 
 // Each frame through all modes.
-fn run_frames(k: Modes, mode_filters: [Batch; 6], in_: &[f32], out: &mut [f32]) -> [Batch; 6]
-    ensures { (result, out.new) ≡ one_pass k mode_filters in_.now out.old }
+fn run_frames(k: &Modes, mode_filters: [Batch; 6], in_: &[f32], out: &mut [f32]) -> [Batch; 6]
+    ensures { (result, out.new) ≡ one_pass k.now mode_filters in_.now out.old }
 {
-    let g = k.g;
-    let r_plus_g = k.r_plus_g;
-    let h = k.h;
-    let gain = k.gain;
-    let states = states_of(mode_filters);
-    let mut state_1 = states.state_1;
-    let mut state_2 = states.state_2;
-    let n = utils::min_usize(in_.len(), out.len());
-    let mut i = 0;
-    while i < n {
-        let x = in_[i];
-        out[i] = frame_loud(
-            &g,
-            &r_plus_g,
-            &h,
-            &gain,
-            &mut state_1,
-            &mut state_2,
-            x,
-            out[i],
-        );
-        i += 1;
+    let mut states = States::from(mode_filters);
+    for i in 0..in_.len().min(out.len()) {
+        out[i] = k.frame::<24>(&mut states, in_[i], out[i]);
     }
-    filters_of(&state_1, &state_2)
+    states.into()
 }
 
 // ---- Resonator
@@ -793,7 +620,7 @@ impl Resonator {
         let mode_amplitude = self.mode_amplitude;
         let before = self.mode_filters;
         let k = modes_for(mode_amplitude, f0, structure, brightness, damping);
-        let mode_filters = run_frames(k, before, in_, out);
+        let mode_filters = run_frames(&k, before, in_, out);
         Resonator {
             mode_amplitude,
             mode_filters,

@@ -1,5 +1,4 @@
 -- `run_halves` meets its contract: the two passes are one.
-use Rattle.modes.specs.declared.resonator.Modes.{Modes}
 use Rattle.halves.proofs.Apart.{rows_fit, passed_both}
 use Rattle.halves.proofs.run_halves.Goals as goal
 
@@ -8,13 +7,11 @@ run_head-requires c =
     let s = c in
     let a = s.args in
     let t = c.run_tail in
-    let k : Modes = record { g = a.g.now; r_plus_g = a.r_plus_g.now; h = a.h.now; gain = a.gain.now } in
-    (s.requires.0, s.requires.1, rows_fit k (a.state_1.now, a.state_2.now) a.in_.now t.new.rows t.ensures.1)
+    (s.requires.0, s.requires.1, rows_fit a.k.now a.states.now a.in_.now t.new.rows t.ensures.1)
 
 pub returns : goal.returns
 returns c =
     let s = c in
     let a = s.args in
     let t = c.run_tail in
-    let k : Modes = record { g = a.g.now; r_plus_g = a.r_plus_g.now; h = a.h.now; gain = a.gain.now } in
-    passed_both k t.new.rows (a.state_1.now, a.state_2.now) a.in_.now a.out.now (s.requires.2, s.requires.3) s.requires.1 t.ensures.0 t.ensures.1 c.run_head.ensures
+    passed_both a.k.now t.new.rows a.states.now a.in_.now a.out.now s.requires.2 s.requires.1 t.ensures.0 t.ensures.1 c.run_head.ensures

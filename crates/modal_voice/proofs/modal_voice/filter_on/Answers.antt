@@ -2,6 +2,9 @@
 use mathlib.Core.Path.{sym, ap, ◌∙◌}
 use mathlib.Core.Bool.{false≢true}
 use Prim.Native.Nat.{◌+◌}
+use lib.ListN.{get_or}
+use lib.Ieee.{nan}
+use Rattle.modes.specs.declared.resonator.ResonatorSvf.{ResonatorSvf}
 use Rattle.modal_voice.specs.OneLoop.{memory, pass_of}
 use Rattle.modal_voice.proofs.OneLoop.{ahead_within, ahead_past}
 use Rattle.modal_voice.proofs.modal_voice.filter_on.Goals as goal
@@ -13,7 +16,7 @@ returns-then-same c =
     (ahead_within a.k (memory a.o) a.temp.now (a.i + 1) c.if-i-temp.true e, λ t. sym e)
 
 pub returns-then-i-temp : goal.returns-then-i-temp
-returns-then-i-temp c = let a = c.args in (ahead_within a.k (memory a.o) a.temp.now (a.i + 1) c.if-i-temp.true c.pass.ensures.0, c.pass.ensures.1)
+returns-then-i-temp c = let a = c.args in (ahead_within a.k (memory a.o) a.temp.now (a.i + 1) c.if-i-temp.true (c.pass.ensures.0 ∙ ap (λ (s : ResonatorSvf). pass_of a.k s (get_or a.temp.now (a.i + 1) nan)) c.memory.ensures), c.pass.ensures.1)
 
 pub returns : goal.returns
 returns c = let a = c.args in (ahead_past a.k (memory a.o) a.temp.now (a.i + 1) c.if-i-temp.false, λ e. absurd (false≢true e))

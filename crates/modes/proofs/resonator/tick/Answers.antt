@@ -1,8 +1,7 @@
 -- `resonator::tick` meets its contract.
-use mathlib.Core.Path.{refl}
 use Rattle.modes.specs.Resonator.{tick_of}
 use Rattle.modes.proofs.resonator.tick.Goals as goal
 
 pub returns : goal.returns
 unfolding tick_of
-returns c = refl
+returns g c = rw (c.times-g_bp.ensures, c.times-g_hp.ensures, c.times-hp.ensures, c.times-r.ensures)

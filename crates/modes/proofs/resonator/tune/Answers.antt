@@ -14,13 +14,13 @@ use native.Mathlib.Omega.{arith}
 use Rattle.modes.proofs.resonator.tune.Goals as goal
 
 pub loop-i-init : goal.loop-i-init
-loop-i-init c = (refl, stored_begin, stored_begin, stored_begin, omega arith, steady_begin c.args.first.stiffness)
+loop-i-init c = (refl, stored_begin, stored_begin, stored_begin, steady_begin c.args.first.stiffness)
 
 pub next_partial-p-requires : goal.next_partial-p-requires
 next_partial-p-requires c =
     let l = c.loop-i in
     let s = l.p.stiffness in
-    (steady_turn (lt c.args.first.stiffness c0) s l.invariant.5).0 ∙ ap (λ (f : Float). s ⊗ f) (sym c.shrinkage-factor.ensures)
+    (steady_turn (lt c.args.first.stiffness c0) s l.invariant.4).0 ∙ ap (λ (f : Float). s ⊗ f) (sym c.shrinkage-factor.ensures)
 
 pub loop-i-preserved : goal.loop-i-preserved
 unfolding next_of
@@ -33,8 +33,7 @@ loop-i-preserved c =
       stored_turn l.invariant.1 (omega arith) (stored_f e s),
       stored_turn l.invariant.2 (omega arith) (stored_q e s),
       stored_turn l.invariant.3 (omega arith) (stored_a e s (get_or a.mode_amplitude l.i nan)),
-      omega arith,
-      subst (λ (p : Partial). Steady (lt a.first.stiffness c0) p.stiffness) (sym c.next_partial-p.ensures) (steady_turn (lt a.first.stiffness c0) l.p.stiffness l.invariant.5).1,
+      subst (λ (p : Partial). Steady (lt a.first.stiffness c0) p.stiffness) (sym c.next_partial-p.ensures) (steady_turn (lt a.first.stiffness c0) l.p.stiffness l.invariant.4).1,
     )
 
 pub returns : goal.returns

@@ -1,6 +1,5 @@
 -- `resonator::tune` meets its contract, by the law of loops that store a value at each place.
 use mathlib.Core.Path.{◌≡◌}
-use Prim.Native.Nat.{◌-◌, ◌≤◌}
 use lib.ListN.{get_or}
 use lib.Ieee.{nan, lt}
 use Rattle.ground.specs.F32.{c0}
@@ -16,8 +15,4 @@ invariant-loop-i l =
     × Stored (λ m. frequency (partial_at l.f0 l.q_loss l.initial.p m)) l.initial.f l.i l.f
     × Stored (λ m. resonance (partial_at l.f0 l.q_loss l.initial.p m)) l.initial.q l.i l.q
     × Stored (λ m. amplitude (get_or l.mode_amplitude m nan) (partial_at l.f0 l.q_loss l.initial.p m)) l.initial.a l.i l.a
-    × (l.i ≤ 24)
     × Steady (lt l.initial.p.stiffness c0) l.p.stiffness
-
-abbrev pub decreases-loop-i : goal.decreases-loop-i
-decreases-loop-i l = 24 - l.i

@@ -13,4 +13,4 @@ sound_frames-s-requires c =
 pub returns : goal.returns
 returns c =
     let a = c.args in
-    together a.k a.self a.temp.now a.temp_2.now a.out.now a.aux.now a.word (search (mapped_length, rules, c)) c.cutoff_for-cutoff.ensures c.resonance-q.ensures c.held_after-held.ensures c.fill_excitation-drawn.ensures c.mode_of-mode.ensures c.raise-brightness.ensures c.raise-damping.ensures c.modes_for-modes.ensures c.sound_frames-s.ensures c.counts_of-counts.ensures
+    together a.k a.self a.temp.now a.temp_2.now a.out.now a.aux.now a.word (search (mapped_length, rules, c)) c.cutoff_for-cutoff.ensures c.choose-q.ensures c.held_after-held.ensures c.fill_excitation-drawn.ensures c.mode_of-mode.ensures c.raise-brightness.ensures c.raise-damping.ensures c.modes_for-modes.ensures c.sound_frames-s.ensures c.counts_of-counts.ensures
