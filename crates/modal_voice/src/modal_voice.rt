@@ -235,10 +235,10 @@ fn filter_frames(
 {
     let mut ahead = filter_first(k, s, temp);
     for i in 0..temp.len() {
-        let x = ahead.x;
+        let given = ahead.x;
         ahead = filter_on(false, k, ahead, temp, i);
-        temp_2[i] = x;
-        aux[i] += x;
+        temp_2[i] = given;
+        aux[i] += given;
     }
     memory(ahead)
 }
