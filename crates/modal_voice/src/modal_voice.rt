@@ -4,13 +4,15 @@ ghost use Rattle.std.specs.Float.{nan};
 ghost use Rattle.ground.specs.F32.{◌⊗◌, c0·7, c1·5, c2, c4, c36, c60};
 ghost use Rattle.ground.specs.Draw.{ret, run, Ran};
 ghost use Rattle.noise.specs.Excitation.{Alike, added};
+ghost use Rattle.noise.specs.Buffers.{IsAlike, IsSame};
 ghost use Rattle.modes.specs.Resonator.{low_block};
 ghost use Rattle.modes.specs.OnePass.{FullStates};
 ghost use Rattle.modal_voice.specs.OneLoop.{Framed, frames_of, Sung, sung_of, has_same_memory, memory, pass_of, Stays, ahead_of};
 ghost use Rattle.modal_voice.specs.ModalVoice.{voice_new, voice_init, cutoff_for, strike_of, clicked, excitation, held_after, excitation_words, excitation_counts, Excited, excite_of, Sounded, sound_of, After, render_of};
 
 use modes::resonator::{Batch, Mode, Modes, Quiet, Resonator, ResonatorSvf, States};
-use noise::excitation::{Counts, Knobs};
+use noise::buffers::Buffers;
+use noise::excitation::{Counts, Knobs, Rendered};
 
 // A voice. A strike on an empty block is held for the next block that has frames.
 #[derive(Clone, Copy)]
@@ -18,14 +20,6 @@ pub struct ModalVoice {
     pub excitation_filter: ResonatorSvf,
     pub resonator: Resonator,
     pub held: bool,
-}
-
-// A voice after a render or its first half, the generator's word, and the words drawn.
-#[derive(Clone, Copy)]
-pub struct Rendered {
-    pub voice: ModalVoice,
-    pub word: u32,
-    pub counts: Counts,
 }
 
 // What the voice takes where it is sustained, and where it is struck.
@@ -321,14 +315,17 @@ fn sound_frames(
     s: ResonatorSvf,
     m: &Modes,
     mode_filters: [Batch; 6],
-    temp: &[f32],
-    temp_2: &mut [f32],
-    out: &mut [f32],
-    aux: &mut [f32],
+    b: &mut Buffers,
 ) -> Filtered
-    requires { Alike temp.now temp_2.old out.old aux.old }
-    ensures { record { filter = result.filter; mode_filters = result.mode_filters; temp2 = temp_2.new; out = out.new; aux = aux.new } ≡ frames_of k s m.now mode_filters temp.now temp_2.old out.old aux.old }
+    requires { IsAlike b.old }
+    ensures all { record { filter = result.filter; mode_filters = result.mode_filters; temp2 = b.new.temp_2.now; out = b.new.out.now; aux = b.new.aux.now } ≡ frames_of k s m.now mode_filters b.old.temp.now b.old.temp_2.now b.old.out.now b.old.aux.now }
+    ensures temp { b.new.temp.now ≡ b.old.temp.now }
+    ensures same { IsSame b.new b.old }
 {
+    let temp = &mut *b.temp;
+    let temp_2 = &mut *b.temp_2;
+    let out = &mut *b.out;
+    let aux = &mut *b.aux;
     let mut states = States::from(mode_filters);
     let filter = if around {
         frames_in_one::<true>(k, s, m, &mut states, temp, temp_2, out, aux)
@@ -375,7 +372,7 @@ impl ModalVoice {
         temp_2: &mut [f32],
         aux: &mut [f32],
         word: u32,
-    ) -> Rendered
+    ) -> Rendered<ModalVoice>
         ensures { run (excite_of k self temp.old temp_2.old aux.old) word ≡ record {
           value = record { voice = result.voice; temp = temp.new; temp2 = temp_2.new; aux = aux.new; counts = result.counts };
           word = result.word;
@@ -420,35 +417,27 @@ impl ModalVoice {
     }
 
     // Both halves, their loops as one; `around` subnormal products or not, which changes no bit.
-    pub fn render(
-        self,
-        around: bool,
-        k: Knobs,
-        temp: &mut [f32],
-        temp_2: &mut [f32],
-        out: &mut [f32],
-        aux: &mut [f32],
-        word: u32,
-    ) -> Rendered
-        requires { Alike temp.old temp_2.old out.old aux.old }
-        ensures { run (render_of k self temp.old temp_2.old out.old aux.old) word ≡ record {
+    pub fn render(self, around: bool, k: Knobs, b: &mut Buffers, word: u32) -> Rendered<ModalVoice>
+        requires { IsAlike b.old }
+        ensures all { run (render_of k self b.old.temp.now b.old.temp_2.now b.old.out.now b.old.aux.now) word ≡ record {
           value = record {
             voice = result.voice;
-            temp = temp.new;
-            temp2 = temp_2.new;
-            out = out.new;
-            aux = aux.new;
+            temp = b.new.temp.now;
+            temp2 = b.new.temp_2.now;
+            out = b.new.out.now;
+            aux = b.new.aux.now;
             counts = result.counts;
           };
           word = result.word;
         } }
+        ensures same { IsSame b.new b.old }
     {
         let cutoff = cutoff_for(k);
         let q = choose(k.sustain, 0.7, 1.5);
         let before = self.held;
-        let held = held_after(k, before, temp.len());
-        let counts = counts_of(k.sustain, temp.len());
-        let drawn = fill_excitation(k, before, cutoff, temp, word);
+        let held = held_after(k, before, b.temp.len());
+        let counts = counts_of(k.sustain, b.temp.len());
+        let drawn = fill_excitation(k, before, cutoff, b.temp, word);
         let mode = modes::resonator::mode_of(cutoff, q, 1.0);
         let brightness = noise::excitation::raise(k.accent, k.brightness);
         let damping = noise::excitation::raise(k.accent, k.damping);
@@ -457,17 +446,7 @@ impl ModalVoice {
         let modes = modes::resonator::modes_for(amplitude, k.f0, k.structure, brightness, damping);
         let filter = self.excitation_filter;
         let before_filters = resonator.mode_filters;
-        let s = sound_frames(
-            around,
-            mode,
-            filter,
-            &modes,
-            before_filters,
-            temp,
-            temp_2,
-            out,
-            aux,
-        );
+        let s = sound_frames(around, mode, filter, &modes, before_filters, b);
         let excitation_filter = s.filter;
         let mode_filters = s.mode_filters;
         let resonator = Resonator {

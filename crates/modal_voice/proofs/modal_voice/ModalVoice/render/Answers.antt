@@ -10,7 +10,7 @@ sound_frames-s-requires c =
     let p = c.requires in
     record { temp2_is = omega (arith, p.temp2_is); out_is = omega (arith, p.out_is); aux_is = omega (arith, p.aux_is) }
 
-pub returns : goal.returns
-returns c =
+pub returns-clause-all : goal.returns-clause-all
+returns-clause-all c =
     let a = c.args in
-    together a.k a.self a.temp.now a.temp_2.now a.out.now a.aux.now a.word (search (mapped_length, rules, c)) c.cutoff_for-cutoff.ensures c.choose-q.ensures c.held_after-held.ensures c.fill_excitation-drawn.ensures c.mode_of-mode.ensures c.raise-brightness.ensures c.raise-damping.ensures c.modes_for-modes.ensures c.sound_frames-s.ensures c.counts_of-counts.ensures
+    rw c.sound_frames-s.ensures.temp (together a.k a.self a.b.now.temp.now a.b.now.temp_2.now a.b.now.out.now a.b.now.aux.now a.word (search (mapped_length, rules, c)) c.cutoff_for-cutoff.ensures c.choose-q.ensures c.held_after-held.ensures c.fill_excitation-drawn.ensures c.mode_of-mode.ensures c.raise-brightness.ensures c.raise-damping.ensures c.modes_for-modes.ensures c.sound_frames-s.ensures.all c.counts_of-counts.ensures)
