@@ -3,23 +3,16 @@ ghost use Rattle.std.specs.Prelude.{◌≡◌, ℕ, ◌<◌, List, length, Float
 ghost use Rattle.slots.specs.Answers.{no_counts};
 ghost use Rattle.slots.specs.Slots.{with_string};
 ghost use Rattle.slots.specs.Calls.{opening, reset, render, lent};
-ghost use Rattle.noise.specs.Excitation.{Alike};
+ghost use Rattle.noise.specs.Buffers.{held, IsAlike, IsSame};
 ghost use Rattle.bank.specs.World.{moved_by, Ready, ReadyString};
 
-use noise::excitation::{Counts, Knobs};
+use noise::buffers::Buffers;
+use noise::excitation::{Knobs, Rendered};
 use slots::slots::{Kind, Slot};
-use string_voice::string_voice::{Rendered, StringVoice};
+use string_voice::string_voice::StringVoice;
 
 // The line memory of a slot.
 const LINES: usize = 1280;
-
-// A slot after a render, the generator's word, and the words drawn.
-#[derive(Clone, Copy)]
-pub struct Acted {
-    pub slot: Slot,
-    pub word: u32,
-    pub counts: Counts,
-}
 
 // An opening, whatever the slot held.
 pub fn open(lines: &mut [f32], slot: usize, kind: u32, sample_rate_hz: f32) -> Slot
@@ -63,22 +56,20 @@ pub fn render_string(
     word: u32,
     slot: usize,
     k: Knobs,
-    temp: &mut [f32],
-    temp_2: &mut [f32],
-    out: &mut [f32],
-    aux: &mut [f32],
-) -> Rendered
-    requires { ReadyString voice lines.old slot out.old × Alike temp.old temp_2.old out.old aux.old }
-    ensures { (x : Slot) → x.kind ≡ 1 → x.string ≡ voice → moved_by (render k (record { temp = temp.old; temp2 = temp_2.old; out = out.old; aux = aux.old })) slot x word lines.old ≡ record {
+    b: &mut Buffers,
+) -> Rendered<StringVoice>
+    requires { ReadyString voice lines.old slot b.old.out.now × IsAlike b.old }
+    ensures moved { (x : Slot) → x.kind ≡ 1 → x.string ≡ voice → moved_by (render k (held b.old)) slot x word lines.old ≡ record {
       slot = with_string x result.voice;
       word = result.word;
       mem = lines.new;
-      bufs = record { temp = temp.new; temp2 = temp_2.new; out = out.new; aux = aux.new };
+      bufs = held b.new;
       counts = result.counts;
     } }
+    ensures same { IsSame b.new b.old }
 {
     let part = &mut lines[LINES * slot..LINES * slot + LINES];
-    voice.render(k, part, temp, temp_2, out, aux, word)
+    voice.render(k, part, b, word)
 }
 
 // A render of a modal voice, which has no lines; `around` subnormal products or not.
@@ -88,23 +79,21 @@ pub fn render_modal(
     word: u32,
     slot: usize,
     k: Knobs,
-    temp: &mut [f32],
-    temp_2: &mut [f32],
-    out: &mut [f32],
-    aux: &mut [f32],
-) -> Acted
-    requires { (x.kind ≡ 2) × Alike temp.old temp_2.old out.old aux.old }
-    ensures { (mem : List Float) → moved_by (render k (record { temp = temp.old; temp2 = temp_2.old; out = out.old; aux = aux.old })) slot x word mem ≡ record {
-      slot = result.slot;
+    b: &mut Buffers,
+) -> Rendered<Slot>
+    requires { (x.kind ≡ 2) × IsAlike b.old }
+    ensures moved { (mem : List Float) → moved_by (render k (held b.old)) slot x word mem ≡ record {
+      slot = result.voice;
       word = result.word;
       mem = mem;
-      bufs = record { temp = temp.new; temp2 = temp_2.new; out = out.new; aux = aux.new };
+      bufs = held b.new;
       counts = result.counts;
     } }
+    ensures same { IsSame b.new b.old }
 {
-    let m = x.modal.render(around, k, temp, temp_2, out, aux, word);
-    Acted {
-        slot: Slot {
+    let m = x.modal.render(around, k, b, word);
+    Rendered {
+        voice: Slot {
             modal: m.voice,
             ..x
         },
@@ -122,26 +111,24 @@ pub fn render(
     word: u32,
     slot: usize,
     k: Knobs,
-    temp: &mut [f32],
-    temp_2: &mut [f32],
-    out: &mut [f32],
-    aux: &mut [f32],
-) -> Acted
-    requires { Ready x lines.old slot out.old × Alike temp.old temp_2.old out.old aux.old }
-    ensures { moved_by (render k (record { temp = temp.old; temp2 = temp_2.old; out = out.old; aux = aux.old })) slot x word lines.old ≡ record {
-      slot = result.slot;
+    b: &mut Buffers,
+) -> Rendered<Slot>
+    requires { Ready x lines.old slot b.old.out.now × IsAlike b.old }
+    ensures moved { moved_by (render k (held b.old)) slot x word lines.old ≡ record {
+      slot = result.voice;
       word = result.word;
       mem = lines.new;
-      bufs = record { temp = temp.new; temp2 = temp_2.new; out = out.new; aux = aux.new };
+      bufs = held b.new;
       counts = result.counts;
     } }
+    ensures same { IsSame b.new b.old }
 {
     if x.kind != Kind::String as u32 {
-        return render_modal(around, x, word, slot, k, temp, temp_2, out, aux);
+        return render_modal(around, x, word, slot, k, b);
     }
-    let s = render_string(x.string, lines, word, slot, k, temp, temp_2, out, aux);
-    Acted {
-        slot: Slot {
+    let s = render_string(x.string, lines, word, slot, k, b);
+    Rendered {
+        voice: Slot {
             string: s.voice,
             ..x
         },

@@ -1,8 +1,10 @@
 // The calls of the bank: any bank, any lengths, any numbers.
 ghost use Rattle.std.specs.Prelude.{◌≡◌, ℕ};
+ghost use Rattle.noise.specs.Buffers.{held, IsSame};
 ghost use Rattle.slots.specs.Calls.{opening, reset, render, lent};
 ghost use Rattle.bank.specs.World.{left_of, call_def};
 
+use noise::buffers::Buffers;
 use noise::excitation::Knobs;
 use slots::answers::{Answer, NO_COUNTS};
 use slots::slots::Bank;
@@ -73,23 +75,21 @@ pub fn render(
     word: u32,
     slot: usize,
     k: Knobs,
-    temp: &mut [f32],
-    temp_2: &mut [f32],
-    out: &mut [f32],
-    aux: &mut [f32],
+    b: &mut Buffers,
 ) -> Rendered
-    ensures { left_of (call_def (record { bank = bank; word = word; mem = lines.old }) (record {
+    ensures left { left_of (call_def (record { bank = bank; word = word; mem = lines.old }) (record {
       slot = slot;
-      act = render k (record { temp = temp.old; temp2 = temp_2.old; out = out.old; aux = aux.old });
+      act = render k (held b.old);
     })) ≡ record {
       answer = result.answer;
       after = record { bank = result.bank; word = result.word; mem = lines.new };
-      bufs = record { temp = temp.new; temp2 = temp_2.new; out = out.new; aux = aux.new };
+      bufs = held b.new;
     } }
+    ensures same { IsSame b.new b.old }
 {
     let bad = slots::table::bad(bank, lines);
     let held = slots::slots::kind_at(bank, slot);
-    match slots::table::check_render(bad, slot, held, k, temp, temp_2, out, aux) {
+    match slots::table::check_render(bad, slot, held, k, b) {
         Err(reason) => Rendered {
             bank,
             word,
@@ -97,8 +97,8 @@ pub fn render(
         },
         Ok(()) => {
             let x = slots::slots::slot_at(bank, slot);
-            let r = crate::acts::render(true, x, lines, word, slot, k, temp, temp_2, out, aux);
-            let after = slots::slots::with_slot(bank, slot, r.slot);
+            let r = crate::acts::render(true, x, lines, word, slot, k, b);
+            let after = slots::slots::with_slot(bank, slot, r.voice);
             Rendered {
                 bank: after,
                 word: r.word,

@@ -1,11 +1,13 @@
 // The one generator, lent to whichever voice is rendering.
 ghost use Rattle.std.specs.Prelude.{◌≡◌};
 ghost use Rattle.ground.specs.Draw.{next};
-ghost use Rattle.slots.specs.Calls.{Bufs, render};
+ghost use Rattle.noise.specs.Buffers.{held, IsSame};
+ghost use Rattle.slots.specs.Calls.{render};
 ghost use Rattle.slots.specs.Table.{Call};
 ghost use Rattle.bank.specs.World.{World, Left, left_of, call_def};
 
 use crate::calls::Rendered;
+use noise::buffers::Buffers;
 use noise::excitation::Knobs;
 use slots::slots::Bank;
 
@@ -30,22 +32,21 @@ pub fn render_lent(
     generator: &mut Generator,
     slot: usize,
     k: Knobs,
-    temp: &mut [f32],
-    temp_2: &mut [f32],
-    out: &mut [f32],
-    aux: &mut [f32],
+    b: &mut Buffers,
 ) -> Rendered
-    ensures { (left_of (call_def (record { bank = bank; word = generator.old.word; mem = lines.old }) (record {
+    ensures left { left_of (call_def (record { bank = bank; word = generator.old.word; mem = lines.old }) (record {
       slot = slot;
-      act = render k (record { temp = temp.old; temp2 = temp_2.old; out = out.old; aux = aux.old });
+      act = render k (held b.old);
     })) ≡ record {
       answer = result.answer;
       after = record { bank = result.bank; word = result.word; mem = lines.new };
-      bufs = record { temp = temp.new; temp2 = temp_2.new; out = out.new; aux = aux.new };
-    }) × (generator.new.word ≡ result.word) }
+      bufs = held b.new;
+    } }
+    ensures word { generator.new.word ≡ result.word }
+    ensures same { IsSame b.new b.old }
 {
     let w = generator.word;
-    let r = crate::calls::render(bank, lines, w, slot, k, temp, temp_2, out, aux);
+    let r = crate::calls::render(bank, lines, w, slot, k, b);
     generator.word = r.word;
     r
 }

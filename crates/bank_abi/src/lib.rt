@@ -11,6 +11,7 @@ ghost use Rattle.bank_abi.specs.Crossing.{fresh_def, Gives};
 pub mod table;
 pub mod voices;
 
+use noise::buffers::Buffers;
 use noise::excitation::Knobs;
 use slots::answers::Reason;
 
@@ -131,9 +132,15 @@ pub extern "C" fn bleidhvan_render(
         brightness,
         damping,
     };
+    let mut b = Buffers {
+        temp,
+        temp_2,
+        out,
+        aux,
+    };
     let bad = crate::table::bad(bytes, lines);
     let kind = crate::table::kind_at(bytes, slot);
-    match slots::table::check_render(bad, slot, kind, k, temp, temp_2, out, aux) {
+    match slots::table::check_render(bad, slot, kind, k, &b) {
         Err(reason) => u32::from(reason),
         Ok(()) => {
             let r = crate::voices::render(
@@ -144,10 +151,7 @@ pub extern "C" fn bleidhvan_render(
                 *word,
                 slot,
                 k,
-                temp,
-                temp_2,
-                out,
-                aux,
+                &mut b,
             );
             *word = r.word;
             *burst = r.counts.burst;

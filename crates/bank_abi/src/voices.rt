@@ -1,12 +1,13 @@
 // A render that the table accepts, on the bytes of its slot.
 ghost use Rattle.std.specs.Prelude.{◌≡◌, ◌<◌, length, Float, List};
-ghost use Rattle.noise.specs.Excitation.{Alike};
+ghost use Rattle.noise.specs.Buffers.{held, IsAlike, IsSame};
 ghost use Rattle.slots.specs.Slots.{slot_at};
 ghost use Rattle.slots.specs.Calls.{render};
 ghost use Rattle.bank.specs.World.{Ready};
 ghost use Rattle.slot_bytes.specs.Layout.{decode_bank};
 ghost use Rattle.bank_abi.specs.Crossing.{Wrote};
 
+use noise::buffers::Buffers;
 use noise::excitation::{Counts, Knobs};
 use slots::slots::Kind;
 
@@ -24,24 +25,22 @@ fn render_string(
     word: u32,
     slot: usize,
     k: Knobs,
-    temp: &mut [f32],
-    temp_2: &mut [f32],
-    out: &mut [f32],
-    aux: &mut [f32],
+    b: &mut Buffers,
 ) -> Drawn
-    requires { ((slot_at (decode_bank bytes.old) slot).kind ≡ 1) × Ready (slot_at (decode_bank bytes.old) slot) lines.old slot out.old × Alike temp.old temp_2.old out.old aux.old × (length bytes.old ≡ 3144) }
-    ensures { Wrote (record { bytes = bytes.old; word = word; mem = lines.old }) (record {
+    requires { ((slot_at (decode_bank bytes.old) slot).kind ≡ 1) × Ready (slot_at (decode_bank bytes.old) slot) lines.old slot b.old.out.now × IsAlike b.old × (length bytes.old ≡ 3144) }
+    ensures wrote { Wrote (record { bytes = bytes.old; word = word; mem = lines.old }) (record {
       slot = slot;
-      act = render k (record { temp = temp.old; temp2 = temp_2.old; out = out.old; aux = aux.old });
+      act = render k (held b.old);
     }) (record {
       number = 0;
       counts = result.counts;
       after = record { bytes = bytes.new; word = result.word; mem = lines.new };
-      bufs = record { temp = temp.new; temp2 = temp_2.new; out = out.new; aux = aux.new };
+      bufs = held b.new;
     }) }
+    ensures same { IsSame b.new b.old }
 {
     let voice = slot_bytes::decode::string_nth(bytes, slot);
-    let r = bank::acts::render_string(voice, lines, word, slot, k, temp, temp_2, out, aux);
+    let r = bank::acts::render_string(voice, lines, word, slot, k, b);
     slot_bytes::encode::put_string_nth(bytes, slot, r.voice);
     Drawn {
         word: r.word,
@@ -56,25 +55,23 @@ fn render_modal(
     word: u32,
     slot: usize,
     k: Knobs,
-    temp: &mut [f32],
-    temp_2: &mut [f32],
-    out: &mut [f32],
-    aux: &mut [f32],
+    b: &mut Buffers,
 ) -> Drawn
-    requires { ((slot_at (decode_bank bytes.old) slot).kind ≡ 2) × (slot < 8) × Alike temp.old temp_2.old out.old aux.old × (length bytes.old ≡ 3144) }
-    ensures { (mem : List Float) → Wrote (record { bytes = bytes.old; word = word; mem = mem }) (record {
+    requires { ((slot_at (decode_bank bytes.old) slot).kind ≡ 2) × (slot < 8) × IsAlike b.old × (length bytes.old ≡ 3144) }
+    ensures wrote { (mem : List Float) → Wrote (record { bytes = bytes.old; word = word; mem = mem }) (record {
       slot = slot;
-      act = render k (record { temp = temp.old; temp2 = temp_2.old; out = out.old; aux = aux.old });
+      act = render k (held b.old);
     }) (record {
       number = 0;
       counts = result.counts;
       after = record { bytes = bytes.new; word = result.word; mem = mem };
-      bufs = record { temp = temp.new; temp2 = temp_2.new; out = out.new; aux = aux.new };
+      bufs = held b.new;
     }) }
+    ensures same { IsSame b.new b.old }
 {
     let x = slot_bytes::decode::nth(bytes, slot);
-    let r = bank::acts::render_modal(around, x, word, slot, k, temp, temp_2, out, aux);
-    slot_bytes::encode::put_nth(bytes, slot, r.slot);
+    let r = bank::acts::render_modal(around, x, word, slot, k, b);
+    slot_bytes::encode::put_nth(bytes, slot, r.voice);
     Drawn {
         word: r.word,
         counts: r.counts,
@@ -90,30 +87,28 @@ pub fn render(
     word: u32,
     slot: usize,
     k: Knobs,
-    temp: &mut [f32],
-    temp_2: &mut [f32],
-    out: &mut [f32],
-    aux: &mut [f32],
+    b: &mut Buffers,
 ) -> Drawn
-    requires { (kind ≡ (slot_at (decode_bank bytes.old) slot).kind) × Ready (slot_at (decode_bank bytes.old) slot) lines.old slot out.old × Alike temp.old temp_2.old out.old aux.old × (length bytes.old ≡ 3144) }
-    ensures { Wrote (record { bytes = bytes.old; word = word; mem = lines.old }) (record {
+    requires { (kind ≡ (slot_at (decode_bank bytes.old) slot).kind) × Ready (slot_at (decode_bank bytes.old) slot) lines.old slot b.old.out.now × IsAlike b.old × (length bytes.old ≡ 3144) }
+    ensures wrote { Wrote (record { bytes = bytes.old; word = word; mem = lines.old }) (record {
       slot = slot;
-      act = render k (record { temp = temp.old; temp2 = temp_2.old; out = out.old; aux = aux.old });
+      act = render k (held b.old);
     }) (record {
       number = 0;
       counts = result.counts;
       after = record { bytes = bytes.new; word = result.word; mem = lines.new };
-      bufs = record { temp = temp.new; temp2 = temp_2.new; out = out.new; aux = aux.new };
+      bufs = held b.new;
     }) }
+    ensures same { IsSame b.new b.old }
 {
     if around {
         if kind == Kind::String as u32 {
-            return render_string(bytes, lines, word, slot, k, temp, temp_2, out, aux);
+            return render_string(bytes, lines, word, slot, k, b);
         }
-        return render_modal(true, bytes, word, slot, k, temp, temp_2, out, aux);
+        return render_modal(true, bytes, word, slot, k, b);
     }
     if kind == Kind::String as u32 {
-        return render_string(bytes, lines, word, slot, k, temp, temp_2, out, aux);
+        return render_string(bytes, lines, word, slot, k, b);
     }
-    render_modal(false, bytes, word, slot, k, temp, temp_2, out, aux)
+    render_modal(false, bytes, word, slot, k, b)
 }

@@ -1,4 +1,5 @@
 -- Laws that other crates cite.
+pub mod Lent
 pub mod OneAhead
 pub mod Drawn
 pub mod Ranges

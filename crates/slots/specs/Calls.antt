@@ -4,18 +4,12 @@ use Rattle.ground.specs.F32.{c0}
 use Rattle.ground.specs.Draw.{Draw, ret, ◌>>=◌}
 use Rattle.noise.specs.declared.excitation.Knobs.{Knobs}
 use Rattle.noise.specs.declared.excitation.Counts.{Counts}
+pub use Rattle.noise.specs.Buffers.{Bufs}
 use Rattle.string_voice.specs.StringVoice as string
 use Rattle.modal_voice.specs.ModalVoice as modal
 use Rattle.slots.specs.declared.slots.Slot.{Slot}
 use Rattle.slots.specs.Answers.{no_counts}
 use Rattle.slots.specs.Slots.{opened}
-
--- the four buffers that a render is lent
-pub record Bufs : Type 0 where
-  pub temp : List Float
-  pub temp2 : List Float
-  pub out : List Float
-  pub aux : List Float
 
 -- what a call asks of a slot
 pub data Act : Type 0 where

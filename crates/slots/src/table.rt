@@ -1,10 +1,12 @@
 // 01's table of refusals: the checks of each call, in its order.
 ghost use Rattle.std.specs.Prelude.{◌≡◌, ℕ, [], ◌∷◌};
+ghost use Rattle.noise.specs.Buffers.{held};
 ghost use Rattle.slots.specs.Calls.{opening, reset, render};
 ghost use Rattle.slots.specs.Table.{first, ◌⇐◌, within, alike, knob_checks, verdict, bad_slot, bad_slots, bad};
 
 use crate::answers::{Knob, Reason, Verdict};
 use crate::slots::{Bank, Kind, Slot};
+use noise::buffers::Buffers;
 use noise::excitation::Knobs;
 
 #[tactic(auto, unfolding(crate::specs::Table::bad_slot))]
@@ -41,13 +43,13 @@ fn within(lo: f32, hi: f32, x: f32) -> bool
     lo <= x && x <= hi
 }
 
-// Whether four buffers of these lengths do not differ.
+// Whether the lengths of the four buffers do not differ.
 #[tactic(auto, unfolding(crate::specs::Table::alike))]
-fn alike(temp: &[f32], temp_2: &[f32], out: &[f32], aux: &[f32]) -> bool
-    ensures { result ≡ alike (record { temp = temp.now; temp2 = temp_2.now; out = out.now; aux = aux.now }) }
+fn alike(b: &Buffers) -> bool
+    ensures { result ≡ alike (held b.now) }
 {
-    let n = temp.len();
-    temp_2.len() == n && out.len() == n && aux.len() == n
+    let n = b.temp.len();
+    b.temp_2.len() == n && b.out.len() == n && b.aux.len() == n
 }
 
 // A row of the table.
@@ -110,25 +112,16 @@ pub fn check_reset(bad: bool, slot: usize, kind: u32) -> Verdict
 }
 
 #[tactic(auto, unfolding(crate::specs::Table::verdict, crate::specs::Table::checks, crate::specs::Table::first))]
-pub fn check_render(
-    bad: bool,
-    slot: usize,
-    kind: u32,
-    k: Knobs,
-    temp: &[f32],
-    temp_2: &[f32],
-    out: &[f32],
-    aux: &[f32],
-) -> Verdict
+pub fn check_render(bad: bool, slot: usize, kind: u32, k: Knobs, b: &Buffers) -> Verdict
     ensures { result ≡ verdict bad kind (record {
       slot = slot;
-      act = render k (record { temp = temp.now; temp2 = temp_2.now; out = out.now; aux = aux.now });
+      act = render k (held b.now);
     }) }
 {
     refuse_if(bad, Reason::Memory)?;
     refuse_if(slot > 7, Reason::NoSlot)?;
     refuse_if(kind == 0, Reason::Empty)?;
-    refuse_if(!alike(temp, temp_2, out, aux), Reason::Lengths)?;
-    refuse_if(temp.len() > 4096, Reason::TooLong)?;
+    refuse_if(!alike(b), Reason::Lengths)?;
+    refuse_if(b.temp.len() > 4096, Reason::TooLong)?;
     check_knobs(k)
 }

@@ -6,6 +6,9 @@ use Rattle.noise.specs.declared.excitation.Knobs.{Knobs}
 use Rattle.slots.specs.Calls.{Bufs, render}
 use Rattle.slots.specs.Slots.{slot_at}
 use Rattle.slot_bytes.specs.Layout.{decode_bank}
+use Rattle.std.proofs.Common.{rules}
+use Rattle.noise.proofs.Lent.{lent_back}
+use Rattle.bank_abi.specs.Crossing.{Crossing, Gives}
 use Rattle.bank_abi.proofs.Crosses.{decided, taken, refused, accepted}
 use Rattle.bank_abi.proofs.bleidhvan_render.Goals as goal
 
@@ -28,6 +31,10 @@ returns-in-Err c =
 pub returns-in-Ok : goal.returns-in-Ok
 returns-in-Ok c =
     let a = c.args in
+    let r = c.render-r in
     let k : Knobs = record { sustain = a.sustain; trigger = a.trigger; accent = a.accent; f0 = a.f0; structure = a.structure; brightness = a.brightness; damping = a.damping } in
     let u : Bufs = record { temp = a.temp.now; temp2 = a.temp_2.now; out = a.out.now; aux = a.aux.now } in
-    accepted (record { bytes = a.bytes.now; word = a.word.now; mem = a.lines.now }) (record { slot = a.slot; act = render k u }) _ (taken a.bytes.now a.lines.now (record { slot = a.slot; act = render k u }) c.check_render.ensures c.bad-bad.ensures c.kind_at-kind.ensures c.in-Ok.is) (passes _ c.well_formed.1.1.1.1.1.1.1.1.0.1) c.render-r.ensures
+    let w : Crossing = record { bytes = a.bytes.now; word = a.word.now; mem = a.lines.now } in
+    lent_back (λ v. Gives w (record { slot = a.slot; act = render k u }) (record { number = 0; counts = r.result.counts; after = record { bytes = r.new.bytes; word = r.result.word; mem = r.new.lines }; bufs = v }))
+    (search rules) (search rules) (search rules) (search rules)
+    (accepted w (record { slot = a.slot; act = render k u }) _ (taken a.bytes.now a.lines.now (record { slot = a.slot; act = render k u }) c.check_render.ensures c.bad-bad.ensures c.kind_at-kind.ensures c.in-Ok.is) (passes _ c.well_formed.1.1.1.1.1.1.1.1.0.1) r.ensures.wrote)

@@ -1,4 +1,5 @@
 -- `voices::render_modal` meets its contract.
+use Rattle.noise.specs.Buffers.{held}
 use mathlib.Core.Path.{◌∙◌, ap}
 use Rattle.slots.specs.declared.slots.Slot.{Slot}
 use Rattle.slots.specs.Calls.{Bufs, render}
@@ -11,10 +12,10 @@ render_modal-r-requires c = let p = c.requires in (ap (λ (x : Slot). x.kind) c.
 pub put_nth-requires : goal.put_nth-requires
 put_nth-requires c = let p = c.requires in (p.1, p.3)
 
-pub returns : goal.returns
-returns c = λ mem.
+pub returns-clause-wrote : goal.returns-clause-wrote
+returns-clause-wrote c = λ mem.
     let a = c.args in
-    let u : Bufs = record { temp = a.temp.now; temp2 = a.temp_2.now; out = a.out.now; aux = a.aux.now } in
+    let u : Bufs = held a.b.now in
     let x = c.nth-x in
     let p = c.put_nth.ensures in
-    wrote (record { bytes = a.bytes.now; word = a.word; mem = mem }) (record { slot = a.slot; act = render a.k u }) x.result _ _ x.ensures (c.render_modal-r.ensures mem) p.0 p.1
+    wrote (record { bytes = a.bytes.now; word = a.word; mem = mem }) (record { slot = a.slot; act = render a.k u }) x.result _ _ x.ensures (c.render_modal-r.ensures.moved mem) p.0 p.1

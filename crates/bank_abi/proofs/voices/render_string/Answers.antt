@@ -1,4 +1,5 @@
 -- `voices::render_string` meets its contract.
+use Rattle.noise.specs.Buffers.{held}
 use mathlib.Core.Path.{refl, sym}
 use Rattle.slots.specs.Calls.{Bufs, render}
 use Rattle.slots.specs.Slots.{slot_at}
@@ -12,10 +13,10 @@ render_string-r-requires c = let p = c.requires in (rw c.string_nth-voice.ensure
 pub put_string_nth-requires : goal.put_string_nth-requires
 put_string_nth-requires c = let p = c.requires in (p.1.voice.slot_within, p.3)
 
-pub returns : goal.returns
-returns c =
+pub returns-clause-wrote : goal.returns-clause-wrote
+returns-clause-wrote c =
     let a = c.args in
     let x = slot_at (decode_bank a.bytes.now) a.slot in
-    let u : Bufs = record { temp = a.temp.now; temp2 = a.temp_2.now; out = a.out.now; aux = a.aux.now } in
+    let u : Bufs = held a.b.now in
     let p = c.put_string_nth.ensures in
-    wrote (record { bytes = a.bytes.now; word = a.word; mem = a.lines.now }) (record { slot = a.slot; act = render a.k u }) x _ _ refl (c.render_string-r.ensures x c.requires.0 (sym c.string_nth-voice.ensures)) p.0 p.1
+    wrote (record { bytes = a.bytes.now; word = a.word; mem = a.lines.now }) (record { slot = a.slot; act = render a.k u }) x _ _ refl (c.render_string-r.ensures.moved x c.requires.0 (sym c.string_nth-voice.ensures)) p.0 p.1
