@@ -1,7 +1,7 @@
 // utils/mod.rs: what the devices share.
 #![tactic(auto)]
 
-ghost use Rattle.std.specs.Prelude.{◌≡◌, min};
+ghost use Rattle.std.specs.Prelude.{◌≡◌};
 ghost use Rattle.utils.specs.Utils.{interpolate_of, one_pole, crossfade_of};
 
 pub mod cosine_oscillator;
@@ -9,13 +9,6 @@ pub mod delay_line;
 pub mod filter;
 pub mod parameter_interpolator;
 pub mod units;
-
-// usize::min
-pub fn min_usize(a: usize, b: usize) -> usize
-    ensures { result ≡ min a b }
-{
-    if a < b { a } else { b }
-}
 
 // `interpolate` over the stiffness table of 65, whose size is 64: an index of 1 gives the last entry.
 #[tactic(auto, unfolding(crate::specs::Utils::interpolate_of, crate::specs::Utils::crossfade_of))]
