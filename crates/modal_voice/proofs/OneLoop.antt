@@ -54,10 +54,6 @@ filter_passed k s x et ey eb =
       stands = (eb ∙ ap (λ (t : Ticked). has_same_memory s t.svf) et) i;
     }
 
--- two memories of one filter
-pub same_memory : (s t : ResonatorSvf) → s.state_1 ≡ t.state_1 → s.state_2 ≡ t.state_2 → s ≡ t
-same_memory s t e f = λ i. record { state_1 = e i; state_2 = f i }
-
 -- the filter ahead, within the block and past its end
 pub ahead_within : {o : Ahead} (k : Mode) (s : ResonatorSvf) (xs : List Float) (i : ℕ) → i < length xs → o ≡ pass_of k s (get_or xs i nan) → o ≡ ahead_of k s xs i
 unfolding ahead_of

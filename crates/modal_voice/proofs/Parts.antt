@@ -7,7 +7,7 @@ use lib.ListN.{length, take, drop, length-append, length-take, length-drop, take
 use lib.Ieee.{Float}
 use Rattle.ground.specs.Frames.{scan}
 use Rattle.ground.proofs.Frames.{length_scan}
-use Rattle.noise.specs.Excitation.{Alike, add_step, added}
+use Rattle.noise.specs.Excitation.{add_step, added}
 use Rattle.modes.specs.declared.resonator.ResonatorSvf.{ResonatorSvf}
 use Rattle.modes.specs.declared.resonator.Mode.{Mode}
 use Rattle.modes.specs.declared.resonator.Modes.{Modes}
@@ -125,10 +125,6 @@ module _ (k : Mode) (s : ResonatorSvf) (m : Modes) (states : States) (temp temp2
     pub within : i ≤ n
     pub small : n * 4 < 2 ^ 63
 
-  pub rest_begin : Alike temp temp2 out aux → length temp * 4 < 2 ^ 63 → Rest (length temp) 0 temp2 out aux states s
-  rest_begin a b =
-      record { whole = refl; all = refl; temp2_size = a.temp2_is; out_size = a.out_is; aux_size = a.aux_is; within = omega arith; small = b }
-
   pub rest_turn : {n i e : ℕ} {ts os us T O U : List Float} {now now' : States} {filter filter' : ResonatorSvf}
       → Rest n i ts os us now filter → i ≤ e → e ≤ n
       → ◌≡◌ {A = Sung} (record { filter = filter'; states = now'; temp2 = T; out = O; aux = U })
@@ -181,17 +177,6 @@ module _ (k : Mode) (s : ResonatorSvf) (m : Modes) (states : States) (temp temp2
   -- the same at an equal place
   pub rest_at : {n i j : ℕ} {ts os us : List Float} {now : States} {filter : ResonatorSvf} → Rest n i ts os us now filter → i ≡ j → Rest n j ts os us now filter
   rest_at {n} {ts = ts} {os = os} {us = us} {now = now} {filter = filter} v e = subst (λ (j : ℕ). Rest n j ts os us now filter) e v
-
-  -- the part from i to e of each buffer has one length
-  pub rest_alike : {n i e : ℕ} {ts os us : List Float} {now : States} {filter : ResonatorSvf} → Rest n i ts os us now filter → i ≤ e → e ≤ n
-      → Alike (take (e - i) (drop i temp)) (take (e - i) (drop i ts)) (take (e - i) (drop i os)) (take (e - i) (drop i us))
-  rest_alike {n} {i} {e} {ts} {os} {us} v l g =
-      let px = part_size i e temp l (omega (arith, v.all, g)) in
-      record {
-        temp2_is = part_size i e ts l (omega (arith, v.temp2_size, g)) ∙ sym px;
-        out_is = part_size i e os l (omega (arith, v.out_size, g)) ∙ sym px;
-        aux_is = part_size i e us l (omega (arith, v.aux_size, g)) ∙ sym px;
-      }
 
   pub rest_end : {n i : ℕ} {ts os us : List Float} {now : States} {filter : ResonatorSvf} → Rest n i ts os us now filter → n ≤ i
       → ◌≡◌ {A = Sung} (record { filter = filter; states = now; temp2 = ts; out = os; aux = us }) (sung_of k s m states temp temp2 out aux)

@@ -2,23 +2,20 @@
 use mathlib.Core.Path.{◌≡◌, refl, sym, ◌∙◌, ap, ap₂, subst}
 use mathlib.Core.List.{List}
 use mathlib.Core.Bool.{Bool, false, ◌||◌}
-use Prim.Native.Nat.{ℕ, zero, suc, ◌+◌, ◌-◌, ◌≤◌, ◌<◌}
+use Prim.Native.Nat.{ℕ, zero, suc, ◌+◌, ◌-◌, ◌≤◌}
 use native.Mathlib.Omega.{arith}
-use lib.ListN.{get_or, length, set, replicate}
+use lib.ListN.{get_or, replicate}
 use lib.Dec.{T}
 use lib.Ieee.{Float, nan, binary32, fits}
 use lib.Ieee.Fits.{mul-fits}
 use Rattle.ground.specs.F32.{◌⊕◌, ◌⊖◌, ◌⊗◌, c0, c1, c2}
 use Rattle.ground.specs.Frames.{tab}
-use Rattle.ground.proofs.Tab.{tab_get_d, length_tab}
-use Rattle.modes.specs.declared.resonator.Mode.{Mode}
-use Rattle.modes.specs.declared.resonator.ResonatorSvf.{ResonatorSvf}
-use Rattle.modes.specs.declared.resonator.Ticked.{Ticked}
+use Rattle.ground.proofs.Tab.{tab_get_d}
 use Rattle.modes.specs.declared.resonator.Modes.{Modes}
 use Rattle.modes.specs.declared.resonator.Partial.{Partial}
 use Rattle.modes.specs.declared.resonator.States.{States}
 use Rattle.modes.specs.Subnormal.{is_small}
-use Rattle.modes.specs.Resonator.{tick_of, cap_of, frequency, resonance, amplitude}
+use Rattle.modes.specs.Resonator.{cap_of, frequency, resonance, amplitude}
 use Rattle.modes.specs.OnePass.{FullStates, Bands, state_at, small_four, tick_in, bands_of, place_of, places_of, add_bare, frame_of}
 use Rattle.modes.proofs.Bare.{add_bare_lem, tab_fits}
 
@@ -140,12 +137,3 @@ framed {b} {b'} k n s x y l h f e e' v =
     ∙ all_places k s x h in
     let r = v ∙ ap (λ (b : Bands). add_bare y b.bands) all ∙ add_bare_lem (bands_of k s x).bands (bands_fit k s x) y f in
     λ j. ((all j).states, r j)
-
--- no state is lost
-pub frame_sizes : {s' : States} {z : Float} (k : Modes) (s : States) (x y : Float)
-    → ◌≡◌ {A = States × Float} (s', z) (frame_of k s x y) → FullStates s'
-unfolding bands_of
-frame_sizes k s x y e = (
-  ap (λ (q : States × Float). length q.0.state_1) e ∙ length_tab 24 (λ t. (tick_in k s x t).svf.state_1),
-  ap (λ (q : States × Float). length q.0.state_2) e ∙ length_tab 24 (λ t. (tick_in k s x t).svf.state_2),
-)

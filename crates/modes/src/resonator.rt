@@ -521,7 +521,7 @@ impl Modes {
         }
     }
 
-    // A frame: the modes at the first UNTESTED places as they come, the others each tested, then every sum.
+    // A frame: the modes at the first UNTESTED places as they come, the others each tested, then every sum. The compiler would leave a second call of it a call.
     #[inline(always)]
     pub fn frame<const UNTESTED: usize>(&self, states: &mut States, x: f32, y: f32) -> f32
         requires { UNTESTED ≤ 24 }

@@ -1,14 +1,12 @@
 -- `resonator::modes_of` meets its contract, by the law of loops that store a value at each place.
-use mathlib.Core.Path.{◌≡◌, ◌∙◌, ap}
-use mathlib.Core.Bool.{Bool, true, false, cond}
-use Prim.Native.Nat.{ℕ, ◌+◌, ◌*◌, ◌/◌, ◌%◌, ◌<◌}
-use lib.Dec.{T, ltb, ltb→lt}
+use mathlib.Core.Path.{◌∙◌, ap}
+use Prim.Native.Nat.{ℕ}
 use lib.ListN.{get_or}
 use lib.Ieee.{nan}
 use Rattle.ground.proofs.Tab.{stored_begin, stored_turn, stored_end}
 use Rattle.modes.specs.declared.resonator.Mode.{Mode}
 use Rattle.modes.specs.Resonator.{mode_of}
-use Rattle.modes.specs.OnePass.{mode_here, modes_of}
+use Rattle.modes.specs.OnePass.{modes_of}
 use native.Mathlib.Omega.{arith}
 use Rattle.modes.proofs.resonator.modes_of.Goals as goal
 

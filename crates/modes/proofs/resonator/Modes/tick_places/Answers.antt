@@ -2,7 +2,7 @@
 use mathlib.Core.Path.{◌∙◌}
 use native.Mathlib.Omega.{arith}
 use Rattle.modes.specs.OnePass.{Bands}
-use Rattle.modes.proofs.Frame.{placed_begin, placed_turn}
+use Rattle.modes.proofs.Frame.{placed_turn}
 use Rattle.modes.proofs.resonator.Modes.tick_places.Goals as goal
 use Rattle.modes.proofs.resonator.Modes.tick_places.Goals.{then-this-ne0+then-is_small, else-this-ne0}
 
