@@ -387,11 +387,10 @@ impl ModalVoice {
         let filter = self.excitation_filter;
         let excitation_filter = filter.process_low(cutoff, q, 1.0, temp, temp_2);
         noise::excitation::add_into(temp_2, aux);
-        let resonator = self.resonator;
         let voice = ModalVoice {
             excitation_filter,
-            resonator,
             held,
+            ..self
         };
         Rendered {
             voice,
@@ -408,12 +407,7 @@ impl ModalVoice {
         let damping = noise::excitation::raise(k.accent, k.damping);
         let before = self.resonator;
         let resonator = before.process(k.f0, k.structure, brightness, damping, temp_2, out);
-        let excitation_filter = self.excitation_filter;
-        ModalVoice {
-            excitation_filter,
-            resonator,
-            held: self.held,
-        }
+        ModalVoice { resonator, ..self }
     }
 
     // Both halves, their loops as one; `around` subnormal products or not, which changes no bit.
@@ -447,14 +441,13 @@ impl ModalVoice {
         let filter = self.excitation_filter;
         let before_filters = resonator.mode_filters;
         let s = sound_frames(around, mode, filter, &modes, before_filters, b);
-        let excitation_filter = s.filter;
         let mode_filters = s.mode_filters;
         let resonator = Resonator {
-            mode_amplitude: amplitude,
             mode_filters,
+            ..resonator
         };
         let voice = ModalVoice {
-            excitation_filter,
+            excitation_filter: s.filter,
             resonator,
             held,
         };

@@ -449,7 +449,7 @@ impl From<[Batch; 6]> for States {
     }
 }
 
-// And back.
+// And back. The six calls are the table of the batches' places.
 impl From<States> for [Batch; 6] {
     ghost from_gives = { λ s fs. fs ≡ filters_of s };
 
@@ -547,7 +547,7 @@ impl Modes {
     }
 }
 
-// The sum of a batch.
+// The sum of a batch. Its line shows the order of the four terms, which a loop would not.
 fn batch_sum(bands: &[f32; 24], first: usize, apart: usize) -> f32
     requires { first + 3 * apart < 24 }
     ensures { result ≡ bare_sum bands.now first apart }
@@ -617,13 +617,11 @@ impl Resonator {
     ) -> Resonator
         ensures { (result, out.new) ≡ process_of self f0 structure brightness damping in_.now out.old }
     {
-        let mode_amplitude = self.mode_amplitude;
-        let before = self.mode_filters;
-        let k = modes_for(mode_amplitude, f0, structure, brightness, damping);
-        let mode_filters = run_frames(&k, before, in_, out);
+        let k = modes_for(self.mode_amplitude, f0, structure, brightness, damping);
+        let mode_filters = run_frames(&k, self.mode_filters, in_, out);
         Resonator {
-            mode_amplitude,
             mode_filters,
+            ..self
         }
     }
 }

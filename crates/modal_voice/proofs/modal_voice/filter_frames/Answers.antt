@@ -9,9 +9,6 @@ loop-i-init c =
     let a = c.args in
     passing_begin a.k a.s a.temp.now a.temp_2.now a.aux.now c.requires.0 c.requires.1 (search rules) c.filter_first-ahead.ensures.0 c.filter_first-ahead.ensures.1
 
-pub filter_on-ahead-requires : goal.filter_on-ahead-requires
-filter_on-ahead-requires c = (c.loop-i.invariant.stays, omega arith)
-
 pub loop-i-preserved : goal.loop-i-preserved
 loop-i-preserved c =
     let a = c.args in

@@ -9,9 +9,6 @@ loop-i-init g c =
     let a = c.args in
     underway_begin a.k a.s a.m.now a.states.now a.temp.now a.temp_2.now a.out.now a.aux.now c.requires (search rules) c.filter_first-ahead.ensures.0 c.filter_first-ahead.ensures.1
 
-pub filter_on-ahead-requires : goal.filter_on-ahead-requires
-filter_on-ahead-requires g c = (c.loop-i.invariant.passing.stays, omega arith)
-
 pub loop-i-preserved : goal.loop-i-preserved
 loop-i-preserved g c =
     let a = c.args in

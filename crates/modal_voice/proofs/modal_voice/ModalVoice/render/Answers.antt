@@ -1,14 +1,8 @@
 -- `modal_voice::ModalVoice::render` meets its contract: one loop is its two halves in order.
-use native.Mathlib.Omega.{arith}
 use Rattle.modes.proofs.OnePass.{mapped_length}
 use Rattle.modal_voice.proofs.OneLoop.{together}
 use borrow.Author.Rules.{rules}
 use Rattle.modal_voice.proofs.modal_voice.ModalVoice.render.Goals as goal
-
-pub sound_frames-s-requires : goal.sound_frames-s-requires
-sound_frames-s-requires c =
-    let p = c.requires in
-    record { temp2_is = omega (arith, p.temp2_is); out_is = omega (arith, p.out_is); aux_is = omega (arith, p.aux_is) }
 
 pub returns-clause-all : goal.returns-clause-all
 returns-clause-all c =
