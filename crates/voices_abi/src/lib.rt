@@ -8,6 +8,7 @@ ghost use Rattle.voices_abi.specs.Strings.{sizes_fit, blocks_of};
 ghost use Rattle.voices_abi.specs.Modals.{modal_blocks};
 
 use modal_voice::modal_voice::ModalVoice;
+use noise::buffers::Buffers;
 use noise::excitation::Knobs;
 use string_voice::string_voice::StringVoice;
 
@@ -70,10 +71,16 @@ pub extern "C" fn strings_render(
         brightness,
         damping,
     };
+    let mut b = Buffers {
+        temp,
+        temp_2,
+        out,
+        aux,
+    };
     let mut voice = StringVoice::new().init(sample_rate_hz, lines);
     let mut drawn = word;
     for _ in 0..blocks {
-        let r = voice.render(k, lines, temp, temp_2, out, aux, drawn);
+        let r = voice.render(k, lines, &mut b, drawn);
         voice = r.voice;
         drawn = r.word;
     }
@@ -123,10 +130,16 @@ pub extern "C" fn modals_render(
         brightness,
         damping,
     };
+    let mut b = Buffers {
+        temp,
+        temp_2,
+        out,
+        aux,
+    };
     let mut voice = ModalVoice::new().init();
     let mut drawn = word;
     for _ in 0..blocks {
-        let r = voice.render(slow_subnormals, k, temp, temp_2, out, aux, drawn);
+        let r = voice.render(slow_subnormals, k, &mut b, drawn);
         voice = r.voice;
         drawn = r.word;
     }

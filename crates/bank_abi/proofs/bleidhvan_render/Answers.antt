@@ -35,6 +35,6 @@ returns-in-Ok c =
     let k : Knobs = record { sustain = a.sustain; trigger = a.trigger; accent = a.accent; f0 = a.f0; structure = a.structure; brightness = a.brightness; damping = a.damping } in
     let u : Bufs = record { temp = a.temp.now; temp2 = a.temp_2.now; out = a.out.now; aux = a.aux.now } in
     let w : Crossing = record { bytes = a.bytes.now; word = a.word.now; mem = a.lines.now } in
-    lent_back (λ v. Gives w (record { slot = a.slot; act = render k u }) (record { number = 0; counts = r.result.counts; after = record { bytes = r.new.bytes; word = r.result.word; mem = r.new.lines }; bufs = v }))
-    (search rules) (search rules) (search rules) (search rules)
+    lent_back (search rules) (search rules) (search rules) (search rules)
+    (λ v. Gives w (record { slot = a.slot; act = render k u }) (record { number = 0; counts = r.result.counts; after = record { bytes = r.new.bytes; word = r.result.word; mem = r.new.lines }; bufs = v }))
     (accepted w (record { slot = a.slot; act = render k u }) _ (taken a.bytes.now a.lines.now (record { slot = a.slot; act = render k u }) c.check_render.ensures c.bad-bad.ensures c.kind_at-kind.ensures c.in-Ok.is) (passes _ c.well_formed.1.1.1.1.1.1.1.1.0.1) r.ensures.wrote)

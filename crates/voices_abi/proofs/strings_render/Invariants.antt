@@ -1,5 +1,6 @@
 -- `strings_render` meets its contract: block after block.
 use lib.ListN.{length}
+use Rattle.noise.specs.Buffers.{IsSame}
 use Rattle.voices_abi.specs.Strings.{again}
 use Rattle.voices_abi.proofs.Blocks.{Done}
 use Rattle.voices_abi.proofs.Strings.{Sized}
@@ -7,5 +8,6 @@ use Rattle.voices_abi.proofs.strings_render.Given as goal
 
 abbrev pub invariant-loop : goal.invariant-loop
 invariant-loop l =
-    Done (again l.k) (Sized (length l.initial.out)) l.blocks (record { voice = l.initial.voice; lines = l.initial.lines; temp = l.initial.temp; temp2 = l.initial.temp_2; out = l.initial.out; aux = l.initial.aux }) l.word l.counter
-    (record { voice = l.voice; lines = l.lines; temp = l.temp; temp2 = l.temp_2; out = l.out; aux = l.aux }) l.drawn
+    Done (again l.k) (Sized (length l.initial.b.out.now)) l.blocks (record { voice = l.initial.voice; lines = l.initial.lines; temp = l.initial.b.temp.now; temp2 = l.initial.b.temp_2.now; out = l.initial.b.out.now; aux = l.initial.b.aux.now }) l.word l.counter
+    (record { voice = l.voice; lines = l.lines; temp = l.b.temp.now; temp2 = l.b.temp_2.now; out = l.b.out.now; aux = l.b.aux.now }) l.drawn
+    × IsSame l.b l.initial.b
