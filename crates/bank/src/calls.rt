@@ -38,7 +38,7 @@ pub fn open(bank: Bank, lines: &mut [f32], slot: usize, kind: u32, sample_rate_h
         Ok(()) => {
             let x = crate::acts::open(lines, slot, kind, sample_rate_hz);
             Opened {
-                bank: slots::slots::with_slot(bank, slot, x),
+                bank: bank.with_slot(slot, x),
                 answer: Ok(NO_COUNTS),
             }
         }
@@ -51,17 +51,17 @@ pub fn reset(bank: Bank, lines: &mut [f32], slot: usize) -> Opened
         ≡ record { answer = result.answer; after = record { bank = result.bank; word = w; mem = lines.new }; bufs = lent reset } }
 {
     let bad = slots::table::bad(bank, lines);
-    let held = slots::slots::kind_at(bank, slot);
+    let held = bank.kind_at(slot);
     match slots::table::check_reset(bad, slot, held) {
         Err(reason) => Opened {
             bank,
             answer: Err(reason),
         },
         Ok(()) => {
-            let x = slots::slots::slot_at(bank, slot);
+            let x = bank.slot_at(slot);
             let y = crate::acts::reset(x, lines, slot);
             Opened {
-                bank: slots::slots::with_slot(bank, slot, y),
+                bank: bank.with_slot(slot, y),
                 answer: Ok(NO_COUNTS),
             }
         }
@@ -88,7 +88,7 @@ pub fn render(
     ensures same { IsSame b.new b.old }
 {
     let bad = slots::table::bad(bank, lines);
-    let held = slots::slots::kind_at(bank, slot);
+    let held = bank.kind_at(slot);
     match slots::table::check_render(bad, slot, held, k, b) {
         Err(reason) => Rendered {
             bank,
@@ -96,9 +96,9 @@ pub fn render(
             answer: Err(reason),
         },
         Ok(()) => {
-            let x = slots::slots::slot_at(bank, slot);
+            let x = bank.slot_at(slot);
             let r = crate::acts::render(true, x, lines, word, slot, k, b);
-            let after = slots::slots::with_slot(bank, slot, r.voice);
+            let after = bank.with_slot(slot, r.voice);
             Rendered {
                 bank: after,
                 word: r.word,

@@ -176,6 +176,6 @@ pub fn put(bank: Bank, slot: u32, number: u32, value: u32) -> Bank {
     if s > 7 {
         return bank;
     }
-    let x = slots::slots::slot_at(bank, s);
-    slots::slots::with_slot(bank, s, with_number(x, number, value))
+    let x = bank.slot_at(s);
+    bank.with_slot(s, with_number(x, number, value))
 }

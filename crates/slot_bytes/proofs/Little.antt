@@ -1,5 +1,6 @@
 -- Words in bytes: what is read, what is written, and words written one after the other. Assumes nothing.
-use Rattle.std.specs.Int.{to_le_bytes}
+use Rattle.std.specs.Int.{from_bool, to_le_bytes}
+use mathlib.Core.Bool.{Bool, true, false}
 use Rattle.std.specs.Simd.{first_chunks}
 use Rattle.std.proofs.Common.{w64}
 use mathlib.Core.Path.{◌≡◌, refl, sym, ◌∙◌, ap, subst}
@@ -240,6 +241,10 @@ modal_wrote m bs e f g l n =
     let x = mode_words m.excitation_filter in
     let k : length a ≡ 24 = length_floats m.resonator.mode_amplitude n in
     wrote 24 50 (x ++ a) b bs (wrote 24 26 x a bs e f refl (omega arith)) g (omega arith) (omega arith)
+
+pub flag_is : (b : Bool) → from_bool b ≡ flag_of b
+flag_is true = refl
+flag_is false = refl
 
 -- the words of a slot are written, and then the flag
 pub whole_wrote : (s : Slot) (v : ℕ) (bs : List ℕ) {es : List ℕ} → es ≡ put_words 0 (slot_words s) bs → length bs ≡ 393 → ModalF32 s.modal → v ≡ flag_of s.modal.held → set es 392 v ≡ encode_slot s

@@ -2,7 +2,7 @@
 ghost use Rattle.std.specs.Prelude.{◌≡◌, ◌+◌, ◌*◌, ◌≤◌, ◌<◌, length};
 ghost use Rattle.slots.specs.Slots.{slot_at, with_string};
 ghost use Rattle.slot_bytes.specs.Words.{put_words, each};
-ghost use Rattle.slot_bytes.specs.Layout.{decode_slot, decode_bank, F32, SvfF32, DcF32, StringF32, VoiceF32, ModeF32, BatchF32, All, ModalF32, SlotF32, svf_words, dc_words, string_words, voice_words, mode_words, batch_words, float_words, modal_words, encode_slot, flag_of, with_bytes};
+ghost use Rattle.slot_bytes.specs.Layout.{decode_slot, decode_bank, F32, SvfF32, DcF32, StringF32, VoiceF32, ModeF32, BatchF32, All, ModalF32, SlotF32, svf_words, dc_words, string_words, voice_words, mode_words, batch_words, float_words, modal_words, encode_slot, with_bytes};
 
 use crate::record::{Record, write_all};
 use crate::words::{floats_stand, put_word, word_at};
@@ -48,15 +48,6 @@ fn put_modal(b: &mut [u8], m: ModalVoice)
     write_all(m.resonator.mode_filters, b, 50);
 }
 
-fn flag(held: bool) -> u8
-    ensures { result ≡ flag_of held }
-{
-    if held {
-        return 1;
-    }
-    0
-}
-
 fn put_slot(b: &mut [u8], s: Slot)
     requires { length b.old ≡ 393 }
     ensures { (b.new ≡ encode_slot s) × SlotF32 s }
@@ -64,8 +55,7 @@ fn put_slot(b: &mut [u8], s: Slot)
     put_word(b, 0, s.kind as usize);
     put_voice(b, s.string);
     put_modal(b, s.modal);
-    let held = s.modal.held;
-    b[392] = flag(held);
+    b[392] = u8::from(s.modal.held);
 }
 
 // A slot of a bank is written, and the others are kept.
@@ -100,7 +90,7 @@ fn put_string_slot(b: &mut [u8], v: StringVoice)
     put_modal_again(b);
     put_voice(b, v);
     put_word(b, 0, kind as usize);
-    b[392] = flag(held);
+    b[392] = u8::from(held);
 }
 
 // A string's voice into a slot of a bank, and the other slots are kept.

@@ -30,7 +30,7 @@ fn float_stands(b: &[u8], k: usize) -> bool
     word_at(b, k) % 2147483648 <= 2139095040
 }
 
-// The same of each of n floats from the k-th on.
+// The same of each of n floats from the k-th on. All are looked at, so that the loop has no branch.
 pub fn floats_stand(b: &[u8], k: usize, n: usize) -> bool
     requires { 4 * (k + n) ≤ length b.now }
     ensures { (result ≡ has_no_nan (floats_in (words b.now) k n)) × (result ≡ true → put_words k (each float_words (floats_in (words b.now) k n)) b.now ≡ b.now) }

@@ -90,30 +90,30 @@ impl Bank {
         let empty = empty_slot();
         Bank { slots: [empty; 8] }
     }
-}
 
-pub fn slot_at(bank: Bank, slot: usize) -> Slot
-    requires { slot < 8 }
-    ensures { result ≡ slot_at bank slot }
-{
-    bank.slots[slot]
-}
+    pub fn slot_at(self, slot: usize) -> Slot
+        requires { slot < 8 }
+        ensures { result ≡ slot_at self slot }
+    {
+        self.slots[slot]
+    }
 
-// The kind of a slot; where there is no such slot, 0.
-#[tactic(auto, unfolding(crate::specs::Slots::empty_slot))]
-pub fn kind_at(bank: Bank, slot: usize) -> u32
-    ensures { result ≡ (slot_at bank slot).kind }
-{
-    bank.slots.get(slot).map_or(0, |x| x.kind)
-}
+    // The kind of a slot; where there is no such slot, 0.
+    #[tactic(auto, unfolding(crate::specs::Slots::empty_slot))]
+    pub fn kind_at(self, slot: usize) -> u32
+        ensures { result ≡ (slot_at self slot).kind }
+    {
+        self.slots.get(slot).map_or(0, |x| x.kind)
+    }
 
-pub fn with_slot(bank: Bank, slot: usize, x: Slot) -> Bank
-    requires { slot < 8 }
-    ensures { result ≡ with_slot bank slot x }
-{
-    let mut b = bank;
-    b.slots[slot] = x;
-    b
+    pub fn with_slot(self, slot: usize, x: Slot) -> Bank
+        requires { slot < 8 }
+        ensures { result ≡ with_slot self slot x }
+    {
+        let mut bank = self;
+        bank.slots[slot] = x;
+        bank
+    }
 }
 
 // A slot opened with a string, its lines cleared.

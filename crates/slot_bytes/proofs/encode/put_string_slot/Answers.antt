@@ -1,4 +1,6 @@
 -- `encode::put_string_slot` meets its contract.
+use mathlib.Core.Path.{◌∙◌}
+use Rattle.slot_bytes.proofs.Little.{flag_is}
 use Rattle.slots.specs.Slots.{with_string}
 use Rattle.slot_bytes.specs.Layout.{decode_slot, slot_in, modal_in}
 use Rattle.slot_bytes.proofs.Stand.{string_wrote}
@@ -10,4 +12,4 @@ returns c =
     let a = c.args in
     let m = c.put_modal_again.ensures in
     let v = c.put_voice.ensures in
-    (string_wrote (with_string (decode_slot a.b.now) a.v) _ c.flag.result a.b.now m.0 v.0 c.put_word.ensures c.requires m.1 c.word_at-kind.ensures.0 c.flag.ensures, (v.1, m.1))
+    (string_wrote (with_string (decode_slot a.b.now) a.v) _ c.from.result a.b.now m.0 v.0 c.put_word.ensures c.requires m.1 c.word_at-kind.ensures.0 (c.from.ensures ∙ flag_is _), (v.1, m.1))
