@@ -11,7 +11,7 @@ use noise::excitation::{Knobs, Rendered};
 use slots::slots::{Kind, Slot};
 use string_voice::string_voice::StringVoice;
 
-// The line memory of a slot.
+// The line memory of a slot. Its part is cut at each call, since a function that lent it on could say what it leaves only by a starred clause.
 const LINES: usize = 1280;
 
 // An opening, whatever the slot held.

@@ -11,7 +11,7 @@ use noise::buffers::Buffers;
 use noise::excitation::{Counts, Knobs};
 use slots::slots::Kind;
 
-// The generator's word after a render, and the words drawn.
+// The generator's word after a render, and the words drawn; the slot after it stands in the bytes.
 #[derive(Clone, Copy)]
 pub struct Drawn {
     pub word: u32,

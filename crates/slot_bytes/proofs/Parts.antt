@@ -9,8 +9,7 @@ use lib.Seq.{take_at, drop_at, take-append-add, drop-append-add, length-take-le,
 use Rattle.ground.specs.Part.{put}
 use Rattle.slots.specs.declared.slots.Slot.{Slot}
 use Rattle.slots.specs.Slots.{empty_slot, slot_at, with_slot}
-use Rattle.slot_bytes.specs.Words.{words}
-use Rattle.slot_bytes.specs.Layout.{decode_slot, slot_in, parts, decode_bank, with_bytes}
+use Rattle.slot_bytes.specs.Layout.{decode_slot, parts, decode_bank, with_bytes}
 
 -- ---- a slot's part
 
@@ -67,10 +66,6 @@ parts_are (suc n) bs = ap (λ (ps : List (List ℕ)). take 393 bs ∷ ps) (parts
 -- the slot's bytes as the code cuts them
 pub slot_cut : (bs : List ℕ) (slot : ℕ) → slot < 8 → decode_slot (take (393 * slot + 393 - 393 * slot) (drop (393 * slot) bs)) ≡ slot_at (decode_bank bs) slot
 slot_cut bs slot h = ap decode_slot (as_cut bs slot) ∙ sym (slot_is bs slot h)
-
-pub kind_cut : (bs : List ℕ) (slot : ℕ) → slot < 8 → get_or (words (take (393 * slot + 393 - 393 * slot) (drop (393 * slot) bs))) 0 0 ≡ (slot_at (decode_bank bs) slot).kind
-unfolding decode_slot slot_in
-kind_cut bs slot h = ap (λ (x : Slot). x.kind) (slot_cut bs slot h)
 
 pub slot_none : (bs : List ℕ) (slot : ℕ) → 7 < slot → 0 ≡ (slot_at (decode_bank bs) slot).kind
 unfolding decode_bank empty_slot

@@ -1,8 +1,7 @@
 // A slot from its 393 bytes.
 ghost use Rattle.std.specs.Prelude.{◌≡◌, ◌+◌, ◌*◌, ◌≤◌, ◌<◌, eqb, length, get_or};
-ghost use Rattle.ground.specs.Frames.{tab};
 ghost use Rattle.slots.specs.Slots.{slot_at};
-ghost use Rattle.slot_bytes.specs.Layout.{float_in, svf_in, dc_in, string_in, voice_in, mode_in, batch_in, modal_in, decode_slot, parts, decode_bank};
+ghost use Rattle.slot_bytes.specs.Layout.{string_in, voice_in, modal_in, decode_slot, parts, decode_bank};
 ghost use Rattle.slot_bytes.specs.Words.{words};
 
 use crate::record::{Record, read_all};

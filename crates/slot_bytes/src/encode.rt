@@ -1,16 +1,14 @@
 // A slot into its 393 bytes.
-ghost use Rattle.std.specs.Prelude.{◌≡◌, ◌+◌, ◌*◌, ◌≤◌, ◌<◌, length};
+ghost use Rattle.std.specs.Prelude.{◌≡◌, ◌<◌, length};
 ghost use Rattle.slots.specs.Slots.{slot_at, with_string};
-ghost use Rattle.slot_bytes.specs.Words.{put_words, each};
-ghost use Rattle.slot_bytes.specs.Layout.{decode_slot, decode_bank, F32, SvfF32, DcF32, StringF32, VoiceF32, ModeF32, BatchF32, All, ModalF32, SlotF32, svf_words, dc_words, string_words, voice_words, mode_words, batch_words, float_words, modal_words, encode_slot, with_bytes};
+ghost use Rattle.slot_bytes.specs.Words.{put_words};
+ghost use Rattle.slot_bytes.specs.Layout.{decode_slot, decode_bank, StringF32, VoiceF32, ModalF32, SlotF32, string_words, voice_words, modal_words, encode_slot, with_bytes};
 
 use crate::record::{Record, write_all};
 use crate::words::{floats_stand, put_word, word_at};
 use modal_voice::modal_voice::ModalVoice;
-use modes::resonator::{Batch, ResonatorSvf};
 use slots::slots::Slot;
 use string_voice::string_voice::StringVoice;
-use utils::filter::{DcBlocker, Svf};
 use waveguide::string::String;
 
 fn put_string(b: &mut [u8], s: String)
@@ -58,7 +56,7 @@ fn put_slot(b: &mut [u8], s: Slot)
     b[392] = u8::from(s.modal.held);
 }
 
-// A slot of a bank is written, and the others are kept.
+// A slot of a bank is written, and the others are kept. Its part is cut here, since a function that lent it on could say what it leaves only by a starred clause.
 pub fn put_nth(bytes: &mut [u8], slot: usize, x: Slot)
     requires { (slot < 8) × (length bytes.old ≡ 3144) }
     ensures { (bytes.new ≡ with_bytes slot (encode_slot x) bytes.old) × SlotF32 x }

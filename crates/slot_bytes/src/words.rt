@@ -2,7 +2,7 @@
 ghost use Rattle.std.specs.Prelude.{◌≡◌, true, not, [], ◌∷◌, ◌+◌, ◌*◌, ◌≤◌, ◌<◌, length, get_or};
 ghost use Rattle.std.specs.Float.Ieee.{is_nan};
 ghost use Rattle.slot_bytes.specs.Words.{words, put_words, each};
-ghost use Rattle.slot_bytes.specs.Layout.{F32, float_in, floats_in, has_no_nan, float_words};
+ghost use Rattle.slot_bytes.specs.Layout.{float_in, floats_in, has_no_nan, float_words};
 
 // The k-th word, which written again would change no byte.
 pub fn word_at(b: &[u8], k: usize) -> u32
