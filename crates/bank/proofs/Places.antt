@@ -1,17 +1,13 @@
 -- What a render is ready for: its kind, and its part of line memory. Assumes nothing.
 use mathlib.Core.Path.{◌≡◌}
 use mathlib.Core.List.{List}
-use Prim.Native.Nat.{ℕ, ◌<◌, ◌≤◌, ◌+◌, ◌-◌, ◌*◌}
+use Prim.Native.Nat.{ℕ, ◌<◌, ◌+◌, ◌-◌, ◌*◌}
 use native.Mathlib.Omega.{arith}
 use lib.ListN.{length, take, drop, length-take, length-drop}
 use lib.Ieee.{Float}
 use Rattle.string_voice.specs.declared.string_voice.StringVoice.{StringVoice}
 use Rattle.waveguide.specs.String.{Good}
 use Rattle.bank.specs.World.{ReadyString}
-
--- of the kinds that a render is ready for, one that is not 1
-pub kind_modal : (kind : ℕ) → 0 < kind → kind ≤ 2 → (kind ≡ 1 → ⊥) → kind ≡ 2
-kind_modal kind l u h = omega arith
 
 -- a string's part of line memory and its places are good
 pub good_part : (v : StringVoice) (mem : List Float) (slot : ℕ) (out : List Float) → ReadyString v mem slot out

@@ -103,7 +103,6 @@ pub fn render_modal(
 }
 
 // A render, by the slot's kind.
-#[tactic(auto, using(crate::proofs::Places::kind_modal))]
 pub fn render(
     around: bool,
     x: Slot,

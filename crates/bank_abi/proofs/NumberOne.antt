@@ -1,19 +1,12 @@
 -- Number 1 read off the bytes of eight slots. Assumes nothing.
 use mathlib.Core.Path.{◌≡◌, refl, sym, ◌∙◌, ap}
-use mathlib.Core.Bool.{Bool, true, false, not, ◌||◌}
+use mathlib.Core.Bool.{Bool, true, false, ◌||◌}
 use mathlib.Core.List.{List, [], ◌∷◌, map}
-use Prim.Native.Nat.{ℕ, suc, ◌+◌, ◌-◌, ◌*◌, ◌<◌, ◌≤◌}
-use native.Mathlib.Omega.{arith}
-use native.Mathlib.Numerals.{add-one}
-use lib.Dec.{eqb}
-use lib.ListN.{length, take, drop, drop_of_length-le}
-use lib.Seq.{drop-cons}
-use lib.Ieee.{Float}
+use Prim.Native.Nat.{ℕ, ◌-◌}
 use Rattle.std.specs.List.{list_any}
 use Rattle.slots.specs.Table.{bad_slot, bad_slots, bad}
-use Rattle.slot_bytes.specs.Layout.{decode_slot, parts, decode_bank}
-use Rattle.bank_abi.specs.Crossing.{bad_flag, bad_flags, is_bank, bad_bytes}
-use Rattle.slot_bytes.proofs.Parts.{length_parts, part_at, as_cut}
+use Rattle.slot_bytes.specs.Layout.{decode_slot}
+use Rattle.bank_abi.specs.Crossing.{bad_flag, bad_flags}
 
 abbrev pub any_bad : List (List ℕ) → Bool
 any_bad ps = bad_slots (map decode_slot ps) || bad_flags ps
@@ -33,13 +26,3 @@ pub some_bad : (ps : List (List ℕ)) → list_any (λ p. bad_slot (decode_slot 
 unfolding bad_slots bad_flags
 some_bad [] = refl
 some_bad (p ∷ ps) = ap (λ (b : Bool). (bad_slot (decode_slot p) || bad_flag p) || b) (some_bad ps) ∙ sym (any_more p ps)
-
-pub or_last : (f b : Bool) → not (not f) || (true || b) ≡ true
-or_last true b = refl
-or_last false b = refl
-
-pub or_turn : (s f : Bool) → s || f ≡ not (not f) || s
-or_turn true true = refl
-or_turn true false = refl
-or_turn false true = refl
-or_turn false false = refl

@@ -9,6 +9,7 @@ use slot_bytes::decode::slots_of;
 use slot_bytes::words::word_at;
 
 // Whether a slot's kind, places, left or flag is bad.
+#[tactic(auto, unfolding(slots::specs::Table::bad_slot, slot_bytes::specs::Layout::decode_slot, slot_bytes::specs::Layout::slot_in, slot_bytes::specs::Layout::voice_in, slot_bytes::specs::Layout::string_in))]
 fn bad_slot(b: &[u8; 393]) -> bool
     ensures { result ≡ bad_slot (decode_slot b.now) || bad_flag b.now }
 {
@@ -29,7 +30,7 @@ fn bad_slots(bytes: &[u8]) -> bool
 }
 
 // Whether number 1 applies.
-#[tactic(auto, using(crate::proofs::NumberOne::or_last, crate::proofs::NumberOne::or_turn), unfolding(crate::specs::Crossing::bad_bytes, crate::specs::Crossing::is_bank, slots::specs::Table::bad))]
+#[tactic(auto, unfolding(crate::specs::Crossing::bad_bytes, crate::specs::Crossing::is_bank, slots::specs::Table::bad))]
 pub fn bad(bytes: &[u8], lines: &[f32]) -> bool
     ensures { result ≡ bad_bytes bytes.now lines.now }
 {

@@ -2,7 +2,7 @@
 use Rattle.noise.specs.Buffers.{held}
 use Rattle.slots.specs.Slots.{slot_at}
 use Rattle.slots.specs.Calls.{Bufs, render}
-use Rattle.bank.proofs.Accepted.{Sound, taken, ready, alike_lent}
+use Rattle.bank.proofs.Accepted.{taken, ready, alike_lent}
 use Rattle.bank.proofs.Moves.{decided, refused_left, accepted_left}
 use Rattle.bank.proofs.calls.render.Goals as goal
 

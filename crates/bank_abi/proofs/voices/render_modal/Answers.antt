@@ -9,9 +9,6 @@ use Rattle.bank_abi.proofs.voices.render_modal.Goals as goal
 pub render_modal-r-requires : goal.render_modal-r-requires
 render_modal-r-requires c = let p = c.requires in (ap (λ (x : Slot). x.kind) c.nth-x.ensures ∙ p.0, p.2)
 
-pub put_nth-requires : goal.put_nth-requires
-put_nth-requires c = let p = c.requires in (p.1, p.3)
-
 pub returns-clause-wrote : goal.returns-clause-wrote
 returns-clause-wrote c = λ mem.
     let a = c.args in

@@ -10,9 +10,6 @@ use Rattle.bank_abi.proofs.voices.render_string.Goals as goal
 pub render_string-r-requires : goal.render_string-r-requires
 render_string-r-requires c = let p = c.requires in (rw c.string_nth-voice.ensures p.1.voice, p.2)
 
-pub put_string_nth-requires : goal.put_string_nth-requires
-put_string_nth-requires c = let p = c.requires in (p.1.voice.slot_within, p.3)
-
 pub returns-clause-wrote : goal.returns-clause-wrote
 returns-clause-wrote c =
     let a = c.args in

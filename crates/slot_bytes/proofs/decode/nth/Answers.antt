@@ -2,10 +2,9 @@
 use mathlib.Core.Path.{ap, ◌∙◌}
 use mathlib.Core.List.{List, []}
 use Prim.Native.Nat.{ℕ}
-use lib.ListN.{get_or, length}
-use native.Mathlib.Omega.{arith}
+use lib.ListN.{get_or}
 use Rattle.slot_bytes.specs.Layout.{decode_slot}
-use Rattle.slot_bytes.proofs.Parts.{slot_of, length_parts}
+use Rattle.slot_bytes.proofs.Parts.{slot_of}
 use Rattle.slot_bytes.proofs.decode.nth.Goals as goal
 
 pub returns : goal.returns

@@ -2,12 +2,11 @@
 use mathlib.Core.Path.{ap, ◌∙◌}
 use mathlib.Core.List.{List, []}
 use Prim.Native.Nat.{ℕ}
-use lib.ListN.{get_or, length}
-use native.Mathlib.Omega.{arith}
+use lib.ListN.{get_or}
 use Rattle.slots.specs.declared.slots.Slot.{Slot}
 use Rattle.slot_bytes.specs.Words.{words}
 use Rattle.slot_bytes.specs.Layout.{voice_in, decode_slot, slot_in}
-use Rattle.slot_bytes.proofs.Parts.{slot_of, length_parts}
+use Rattle.slot_bytes.proofs.Parts.{slot_of}
 use Rattle.slot_bytes.proofs.decode.string_nth.Goals as goal
 
 pub returns : goal.returns

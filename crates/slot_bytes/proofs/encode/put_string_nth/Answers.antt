@@ -4,12 +4,8 @@ use Rattle.slots.specs.declared.slots.Slot.{Slot}
 use Rattle.slots.specs.Slots.{with_string}
 use Rattle.slot_bytes.specs.Layout.{SlotF32, encode_slot}
 use Rattle.slot_bytes.proofs.Parts.{slot_cut, put_cut}
-use lib.ListN.{length-take, length-drop}
 use native.Mathlib.Omega.{arith}
 use Rattle.slot_bytes.proofs.encode.put_string_nth.Goals as goal
-
-pub put_string_slot-requires : goal.put_string_slot-requires
-put_string_slot-requires c = simp (length-take, length-drop) (omega arith)
 
 pub returns : goal.returns
 returns c =
