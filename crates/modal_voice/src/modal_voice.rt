@@ -216,7 +216,7 @@ fn frames_in_one<const AROUND: bool>(
     memory(ahead)
 }
 
-// The excitation filter over all frames, and its mix into aux.
+// The excitation filter over all frames, and its mix into aux: `frames_in_one` without modes, which has no states to lend.
 fn filter_frames(
     k: Mode,
     s: ResonatorSvf,

@@ -363,7 +363,7 @@ impl States {
         self.state_2[t] = mode.state_2;
     }
 
-    // A batch's states to their places, the first of them and each `apart` from the one before.
+    // A batch's states to their places, the first of them and each `apart` from the one before. Its modes are fields by name, which no loop goes over.
     fn put_batch(&mut self, batch: Batch, first: usize, apart: usize)
         requires { first + 3 * apart < 24 }
         ensures { self.new ≡ put_batch batch first apart self.old }
