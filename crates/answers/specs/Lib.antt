@@ -1,3 +1,3 @@
 -- What the contracts of `answers` cite. Assumes nothing.
 pub mod Counts
-pub mod Words
+pub mod Digests

@@ -1,11 +1,6 @@
-// The generator of the record's inputs, the shapes of drawn words, the contents of buffers, and digests.
-use crate::words;
+// The inputs of the record's cases, the shapes of drawn words, and the contents of buffers.
 use ground::bits::{float_of, pattern_of};
-
-// The word after w.
-pub fn next(w: u32) -> u32 {
-    std::num::wrapping_add_u32(ground::random::wrapping_mul(w, 1664525), 1013904223)
-}
+use ground::random::get_word;
 
 // The word as a float of 0 to 1, both included.
 fn unit(w: u32) -> f32 {
@@ -13,6 +8,7 @@ fn unit(w: u32) -> f32 {
 }
 
 // The word s in the shape of that number; 0 where there is none.
+// A shape stays the record's nibble: an enum would name each line of this match once more, and nothing else reads it.
 fn shaped(shape: u32, s: u32) -> u32 {
     match shape {
         1 => s,
@@ -40,15 +36,13 @@ pub struct Case {
 
 // The next case of a run; nibble k of the shapes, from the lowest, is the shape of input k.
 pub fn draw(shapes: u32, word: u32) -> Case {
-    let mut inputs = [0u32; 8];
+    let mut inputs = [0; 8];
     let mut s = word;
     let mut rest = shapes;
-    let mut k = 0;
-    while k < 8 {
-        s = next(s);
-        inputs[k] = shaped(rest % 16, s);
-        rest = rest / 16;
-        k += 1;
+    for input in &mut inputs {
+        s = get_word(s);
+        *input = shaped(rest % 16, s);
+        rest /= 16;
     }
     Case { inputs, word: s }
 }
@@ -64,56 +58,9 @@ pub fn sample(z: u32, w: u32) -> f32 {
 
 // Fills a buffer with the samples from a seed word.
 pub fn fill(buffer: &mut [f32], seed: u32) {
-    let n = buffer.len();
     let mut w = seed;
-    let mut i = 0;
-    while i < n {
-        w = next(w);
-        buffer[i] = sample(seed, w);
-        i += 1;
+    for x in buffer {
+        w = get_word(w);
+        *x = sample(seed, w);
     }
-}
-
-// The digest of nothing.
-pub fn digest_begin() -> u32 {
-    2166136261
-}
-
-// The digest with one word more: its upper half is added to its lower, so that a sign reaches every later bit.
-pub fn digest_with(h: u32, word: u32) -> u32 {
-    let sum = std::num::wrapping_add_u32(ground::random::wrapping_mul(h, 16777619), word);
-    std::num::wrapping_add_u32(sum, sum / 65536)
-}
-
-// The digest with the outputs of a case more.
-pub fn digest_of_outputs(h: u32, outputs: [u32; 7]) -> u32 {
-    let mut d = h;
-    let mut k = 0;
-    while k < 7 {
-        d = digest_with(d, outputs[k]);
-        k += 1;
-    }
-    d
-}
-
-// The digest with bytes more.
-pub fn digest_of_bytes(h: u32, bytes: &[u8]) -> u32 {
-    let mut d = h;
-    let mut i = 0;
-    while i < bytes.len() {
-        d = digest_with(d, words::wide(bytes[i]));
-        i += 1;
-    }
-    d
-}
-
-// The digest of a buffer.
-pub fn digest_of_buffer(buffer: &[f32]) -> u32 {
-    let mut d = digest_begin();
-    let mut i = 0;
-    while i < buffer.len() {
-        d = digest_with(d, pattern_of(buffer[i]));
-        i += 1;
-    }
-    d
 }

@@ -1,8 +1,8 @@
-// What every replay of recorded answers shares: words, draws, files and what is printed.
+// What every replay of recorded answers shares: digests, draws, files of records and what is printed.
 #![tactic(auto)]
 
 pub mod calls;
+pub mod digests;
 pub mod draws;
 pub mod format;
-pub mod print;
-pub mod words;
+pub mod replay;

@@ -2,154 +2,106 @@
 #![tactic(auto)]
 
 mod calls;
-mod digests;
 
-use answers::calls::{Adds, Progress};
-use answers::print;
-use slots::slots::Bank;
+use answers::calls::{Kind, Sums, first_words};
+use answers::digests::{BEGIN, digest_of, digest_of_buffer, digest_with};
+use answers::replay::{Asked, Compared};
+use slots::slots::{Bank, Slot};
 use std::io;
 
-// What was compared so far, the bank and the generator's word as the last call left them, and how many calls got each of 01's numbers.
+// The bank, the generator's word and line memory as the calls so far left them, and what these add up to.
 #[derive(Clone, Copy)]
-struct Replayed {
+pub struct Banks {
     bank: Bank,
     word: u32,
+    lines: [f32; 10241],
+    // How many calls got each of 01's numbers.
     numbers: [u32; 14],
-    progress: Progress,
+    sums: Sums,
 }
 
-// Nothing compared, with the checksum of the header.
-fn begin(checksum: u32) -> Replayed {
-    let bank = Bank::fresh();
-    let progress = answers::calls::begin(checksum);
-    Replayed {
-        bank,
-        word: 0,
-        numbers: [0; 14],
-        progress,
-    }
+// The digest of a slot's record.
+fn digest_of_slot(slot: &Slot) -> u32 {
+    let kind = digest_with(BEGIN, slot.kind);
+    let string = digest_of(kind, &string_answers::numbers::numbers_of(&slot.string));
+    modal_answers::numbers::digest_with_voice(string, &slot.modal)
 }
 
-// What a call adds: a list begins, or a block was rendered.
-fn adds_of(row: [u32; 64]) -> Adds {
-    let mut adds = Adds {
-        sequences: 0,
-        blocks: 0,
-        samples: 0,
-    };
-    if row[0] == 3 {
-        adds.sequences = 1;
-    }
-    if row[0] == 2 {
-        if row[17] == 0 {
-            adds.blocks = 1;
-            adds.samples = row[2];
+impl Banks {
+    pub fn new() -> Banks {
+        Banks {
+            bank: Bank::fresh(),
+            word: 0,
+            lines: [0.0; 10241],
+            numbers: [0; 14],
+            sums: Sums::default(),
         }
     }
-    adds
-}
 
-// The tally with a call's number.
-fn with_number(numbers: [u32; 14], row: [u32; 64]) -> [u32; 14] {
-    let mut out = numbers;
-    if row[0] < 3 {
-        let k = answers::words::index(row[17]);
+    // Writes the word, and the digests of line memory and of every slot's record.
+    fn write(&self, row: &mut [u32; 64]) {
+        row[21] = self.word;
+        row[26] = digest_of_buffer(&self.lines);
+        for (word, slot) in row[27..35].iter_mut().zip(&self.bank.slots) {
+            *word = digest_of_slot(slot);
+        }
+    }
+
+    // Counts the number of a call that the table answers.
+    fn count_number(&mut self, given: &[u32; 64]) {
+        let k = given[17] as usize;
         if k < 14 {
-            out[k] = std::num::wrapping_add_u32(numbers[k], 1);
+            self.numbers[k] = self.numbers[k].wrapping_add(1);
         }
     }
-    out
 }
 
-// After a whole call, made again.
-fn after(
-    rt: &impl Print,
-    before: Replayed,
-    row: [u32; 64],
-    made: calls::Made,
-    checksum: u32,
-) -> io::Result<Replayed> {
-    let bank = made.bank;
-    let other = made.row;
-    let p = before.progress;
-    let numbers = before.numbers;
-    let progress = answers::calls::after(rt, b"bank", p, row, other, adds_of(row), checksum)?;
-    Ok(Replayed {
-        bank,
-        word: made.word,
-        numbers: with_number(numbers, other),
-        progress,
-    })
-}
+impl Asked<64> for Banks {
+    const FILE: &'static str = "banks.bin";
 
-// After a read that was no whole call.
-fn ended(before: Replayed, checksum: u32, read: usize) -> Replayed {
-    let bank = before.bank;
-    let numbers = before.numbers;
-    let p = before.progress;
-    let progress = answers::calls::ended(p, checksum, read);
-    Replayed {
-        bank,
-        word: before.word,
-        numbers,
-        progress,
+    const RECORD: &'static str = "call";
+
+    fn name(_row: &[u32; 64]) -> &'static str {
+        "bank"
     }
-}
 
-// One call more, if there is one.
-fn step<R: io::Read>(
-    rt: &impl Print,
-    reader: &mut R,
-    before: Replayed,
-    lines: &mut [f32],
-) -> io::Result<Replayed> {
-    let p = before.progress;
-    if p.read != 256 {
-        return Ok(before);
+    fn again(&mut self, row: &[u32; 64]) -> Option<[u32; 64]> {
+        let mut given = first_words(row, 17);
+        given[22..26].fill(BEGIN);
+        match Kind::try_from(row[0]) {
+            Ok(Kind::Opening) => self.open(&mut given),
+            Ok(Kind::Reset) => self.reset(&mut given),
+            Ok(Kind::Render) => self.render(&mut given),
+            Ok(Kind::List) => self.begin(row),
+            Ok(Kind::Number) => self.put(row),
+            Err(_) => return None,
+        }
+        self.write(&mut given);
+        Some(given)
     }
-    let call = answers::calls::next(reader, p.checksum)?;
-    if call.read != 256 {
-        return Ok(ended(before, call.checksum, call.read));
-    }
-    let row = call.row;
-    let bank = before.bank;
-    let made = calls::again(bank, before.word, row, lines);
-    after(rt, before, row, made, call.checksum)
-}
 
-// Every call, up to 65,536.
-fn read_all<R: io::Read>(rt: &impl Print, reader: &mut R, begun: Replayed) -> io::Result<Replayed> {
-    let mut lines = [0.0f32; 10241];
-    let mut p = begun;
-    let mut i: u32 = 0;
-    while i < 65536 {
-        p = step(rt, reader, p, &mut lines)?;
-        i += 1;
+    fn count(&mut self, row: &[u32; 64], again: Option<&[u32; 64]>, _differs: bool) {
+        let kind = Kind::try_from(row[0]);
+        match kind {
+            Ok(Kind::List) => self.sums.add_sequence(),
+            Ok(Kind::Render) if row[17] == 0 => self.sums.add_block(row[2]),
+            _ => {}
+        }
+        if let (Some(given), Ok(Kind::Opening | Kind::Reset | Kind::Render)) = (again, kind) {
+            self.count_number(given);
+        }
     }
-    Ok(p)
-}
 
-// How many calls got each number, from 0 on.
-fn numbers_line(rt: &impl Print, numbers: [u32; 14]) -> io::Result<()> {
-    print::say(rt, b"bank: calls by number")?;
-    let mut k = 0;
-    while k < 14 {
-        print::count(rt, b" ", numbers[k])?;
-        k += 1;
+    // How many calls got each number, from 0 on.
+    fn lines(&self, rt: &impl Print) -> io::Result<()> {
+        print!(rt; "bank: calls by number")?;
+        for n in &self.numbers {
+            print!(rt; " {n}")?;
+        }
+        println!(rt)
     }
-    print::say(rt, b"\n")
-}
 
-// The calls from a header on, and what was compared.
-pub fn replay<R: io::Read>(
-    rt: &impl Print,
-    reader: &mut R,
-    stated: u32,
-    checksum: u32,
-) -> io::Result<()> {
-    let all = read_all(rt, reader, begin(checksum))?;
-    let p = all.progress;
-    let numbers = all.numbers;
-    numbers_line(rt, numbers)?;
-    answers::calls::report(rt, b"bank", b"banks.bin", p, stated)
+    fn total(&self, rt: &impl Print, compared: Compared) -> io::Result<()> {
+        self.sums.total_line(rt, "bank", compared)
+    }
 }

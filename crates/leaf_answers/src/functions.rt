@@ -1,4 +1,4 @@
-// The functions of the record, each by its number.
+// The functions of the record.
 pub mod cosine_oscillator;
 pub mod delay_line;
 pub mod filter;
@@ -9,77 +9,164 @@ pub mod tables;
 
 ghost use Rattle.std.specs.Prelude.{◌≤◌};
 
-use answers::{draws, words};
+use answers::replay::NOTHING;
 
-// The number of inputs that a function uses; 0 where no function has the number.
-pub fn inputs_used(function: u32) -> usize
-    ensures { result ≤ 7 }
+// Each function, with the record's number of it.
+#[derive(Clone, Copy, PartialEq, Eq)]
+pub enum Function {
+    WholePart = 1,
+    Fraction,
+    Min,
+    Clamp,
+    Abs,
+    Random,
+    Dust,
+    Interpolate,
+    OnePole,
+    Crossfade,
+    ParameterInterpolator,
+    Tan,
+    DcBlocker,
+    SvfProcess,
+    SvfProcessBuffer,
+    DelayLineReads,
+    Allpass,
+    Reset,
+    CosineOscillator,
+    Amplitudes,
+    SemitonesToRatio,
+    Tables,
+}
+
+// A number that no function has.
+#[derive(Clone, Copy, Debug, PartialEq, Eq)]
+pub struct UnknownFunction(pub u32);
+
+impl TryFrom<u32> for Function {
+    type Error = UnknownFunction;
+
+    fn try_from(number: u32) -> Result<Function, UnknownFunction> {
+        let found = Function::ALL.iter().find(|f| **f as u32 == number);
+        found.copied().ok_or(UnknownFunction(number))
+    }
+}
+
+impl Function {
+    // By their numbers.
+    pub const ALL: [Function; 22] = [
+        Function::WholePart,
+        Function::Fraction,
+        Function::Min,
+        Function::Clamp,
+        Function::Abs,
+        Function::Random,
+        Function::Dust,
+        Function::Interpolate,
+        Function::OnePole,
+        Function::Crossfade,
+        Function::ParameterInterpolator,
+        Function::Tan,
+        Function::DcBlocker,
+        Function::SvfProcess,
+        Function::SvfProcessBuffer,
+        Function::DelayLineReads,
+        Function::Allpass,
+        Function::Reset,
+        Function::CosineOscillator,
+        Function::Amplitudes,
+        Function::SemitonesToRatio,
+        Function::Tables,
+    ];
+
+    pub fn name(self) -> &'static str {
+        match self {
+            Function::WholePart => "whole_part",
+            Function::Fraction => "fraction",
+            Function::Min => "min",
+            Function::Clamp => "clamp",
+            Function::Abs => "abs",
+            Function::Random => "random",
+            Function::Dust => "dust",
+            Function::Interpolate => "interpolate",
+            Function::OnePole => "one_pole",
+            Function::Crossfade => "crossfade",
+            Function::ParameterInterpolator => "parameter_interpolator",
+            Function::Tan => "tan",
+            Function::DcBlocker => "dc_blocker",
+            Function::SvfProcess => "svf_process",
+            Function::SvfProcessBuffer => "svf_process_buffer",
+            Function::DelayLineReads => "delay_line_reads",
+            Function::Allpass => "allpass",
+            Function::Reset => "reset",
+            Function::CosineOscillator => "cosine_oscillator",
+            Function::Amplitudes => "amplitudes",
+            Function::SemitonesToRatio => "semitones_to_ratio",
+            Function::Tables => "tables",
+        }
+    }
+
+    // The number of inputs that it uses.
+    pub fn inputs_used(self) -> usize
+        ensures { result ≤ 7 }
+    {
+        match self {
+            Function::WholePart | Function::Fraction | Function::Abs | Function::Random => 1,
+            Function::Interpolate | Function::Amplitudes | Function::SemitonesToRatio => 1,
+            Function::Min | Function::Dust | Function::Tan => 2,
+            Function::CosineOscillator | Function::Tables => 2,
+            Function::OnePole | Function::Crossfade | Function::DcBlocker => 3,
+            Function::Reset => 3,
+            Function::Clamp | Function::ParameterInterpolator | Function::DelayLineReads => 4,
+            Function::SvfProcess | Function::SvfProcessBuffer | Function::Allpass => 7,
+        }
+    }
+}
+
+// What the port answers, where the function is asked such inputs; none uses the last.
+// The functions keep this match: a table of closures would need them all of one form, and says no more than the arms.
+pub fn answer(function: Function, inputs: [u32; 8]) -> Option<[u32; 7]> {
+    let [a, b, c, d, ..] = inputs;
+    Some(match function {
+        Function::WholePart => floats::whole_part(a),
+        Function::Fraction => floats::fraction(a),
+        Function::Min => floats::min(a, b),
+        Function::Clamp => floats::clamp(a, b, c, d),
+        Function::Abs => floats::abs(a),
+        Function::Random => random::draw(a),
+        Function::Dust => random::dust(a, b),
+        Function::Interpolate => interpolation::interpolate(a),
+        Function::OnePole => interpolation::one_pole(a, b, c),
+        Function::Crossfade => interpolation::crossfade(a, b, c),
+        Function::ParameterInterpolator => interpolation::parameter_interpolator(a, b, c, d)?,
+        Function::Tan => filter::tan(a, b),
+        Function::DcBlocker => filter::dc_blocker(a, b, c),
+        Function::SvfProcess => filter::svf_process(inputs),
+        Function::SvfProcessBuffer => filter::svf_process_buffer(inputs),
+        Function::DelayLineReads => delay_line::reads(a, b, c, d),
+        Function::Allpass => delay_line::allpass(inputs),
+        Function::Reset => delay_line::reset(a, b, c),
+        Function::CosineOscillator => cosine_oscillator::cosine_oscillator(a, b),
+        Function::Amplitudes => cosine_oscillator::amplitudes(a),
+        Function::SemitonesToRatio => tables::semitones_to_ratio(a),
+        Function::Tables => tables::entry(a, b)?,
+    })
+}
+
+// The outputs of a record: the words of nothing where there is no answer.
+pub fn outputs_of(function: Function, inputs: [u32; 8]) -> [u32; 7] {
+    answer(function, inputs).unwrap_or([NOTHING; 7])
+}
+
+// Outputs, and zeros for those that a function does not use.
+pub fn outputs<const N: usize>(given: [u32; N]) -> [u32; 7]
+    requires { N ≤ 7 }
 {
-    match function {
-        1 | 2 | 5 | 6 | 8 | 20 | 21 => 1,
-        3 | 7 | 12 | 19 | 22 => 2,
-        9 | 10 | 13 | 18 => 3,
-        4 | 11 | 16 => 4,
-        14 | 15 | 17 => 7,
-        _ => 0,
-    }
-}
-
-// What the port answers to the first seven inputs.
-fn asked(function: u32, a: u32, b: u32, c: u32, d: u32, e: u32, f: u32, g: u32) -> [u32; 7] {
-    match function {
-        1 => floats::whole_part(a),
-        2 => floats::fraction(a),
-        3 => floats::min(a, b),
-        4 => floats::clamp(a, b, c, d),
-        5 => floats::abs(a),
-        6 => random::draw(a),
-        7 => random::dust(a, b),
-        8 => interpolation::interpolate(a),
-        9 => interpolation::one_pole(a, b, c),
-        10 => interpolation::crossfade(a, b, c),
-        11 => interpolation::parameter_interpolator(a, b, c, d),
-        12 => filter::tan(a, b),
-        13 => filter::dc_blocker(a, b, c),
-        14 => filter::svf_process(a, b, c, d, e, f, g),
-        15 => filter::svf_process_buffer(a, b, c, d, e, f, g),
-        16 | 17 | 18 => delay_line::answer(function, a, b, c, d, e, f, g),
-        19 => cosine_oscillator::cosine_oscillator(a, b),
-        20 => cosine_oscillator::amplitudes(a),
-        21 => tables::semitones_to_ratio(a),
-        22 => tables::entry(a, b),
-        _ => no_answer(),
-    }
-}
-
-// What the port answers; no function uses the last input.
-pub fn answer(function: u32, inputs: [u32; 8]) -> [u32; 7] {
-    asked(
-        function, inputs[0], inputs[1], inputs[2], inputs[3], inputs[4], inputs[5], inputs[6],
-    )
-}
-
-// The digest of the answers to the cases of a run.
-pub fn digest(function: u32, seed: u32, count: u32, shapes: u32) -> u32 {
-    let mut s = seed;
-    let mut d = draws::digest_begin();
-    let mut i = 0;
-    while i < count {
-        let case = draws::draw(shapes, s);
-        let inputs = case.inputs;
-        d = draws::digest_of_outputs(d, answer(function, inputs));
-        s = case.word;
-        i += 1;
-    }
-    d
+    let mut all = [0; 7];
+    all[..N].copy_from_slice(&given);
+    all
 }
 
 // The bits of a float as the one output.
 pub fn one(x: f32) -> [u32; 7] {
-    [ground::bits::pattern_of(x), 0, 0, 0, 0, 0, 0]
-}
-
-// Words that no function answers.
-pub fn no_answer() -> [u32; 7] {
-    [0xffff_ffff; 7]
+    outputs([ground::bits::pattern_of(x)])
 }

@@ -1,10 +1,11 @@
-// What was compared and what differed, by function number; the place 0 is for what no function has.
+// What was compared and what differed.
 ghost use Rattle.std.specs.Prelude.{◌<◌};
 
-use answers::words;
+use crate::functions::Function;
+use std::io;
 
 // Raw records, digest records, the cases that these stand for, and how many of the records differ.
-#[derive(Clone, Copy)]
+#[derive(Clone, Copy, Default)]
 pub struct Count {
     pub raw: u32,
     pub digests: u32,
@@ -12,55 +13,34 @@ pub struct Count {
     pub differ: u32,
 }
 
-pub fn none() -> Count {
-    Count {
-        raw: 0,
-        digests: 0,
-        cases: 0,
-        differ: 0,
-    }
-}
-
 impl Count {
     pub fn plus(self, more: Count) -> Count {
         Count {
-            raw: std::num::wrapping_add_u32(self.raw, more.raw),
-            digests: std::num::wrapping_add_u32(self.digests, more.digests),
-            cases: std::num::wrapping_add_u32(self.cases, more.cases),
-            differ: std::num::wrapping_add_u32(self.differ, more.differ),
+            raw: self.raw.wrapping_add(more.raw),
+            digests: self.digests.wrapping_add(more.digests),
+            cases: self.cases.wrapping_add(more.cases),
+            differ: self.differ.wrapping_add(more.differ),
         }
+    }
+
+    // The line of a function of that name.
+    pub fn line(&self, rt: &impl Print, name: &str) -> io::Result<()> {
+        let Count {
+            raw,
+            digests: _,
+            cases,
+            differ,
+        } = *self;
+        println!(rt; "{name}: {raw} raw, {cases} by digest, {differ} differ")
     }
 }
 
 // The place of a function.
-pub fn place(function: u32) -> usize
+pub fn place(function: Option<Function>) -> usize
     ensures { result < 23 }
 {
-    if function < 23 {
-        words::index(function)
-    } else {
-        0
+    match function {
+        Some(f) => f as usize,
+        None => 0,
     }
-}
-
-// The counts with more at a place.
-pub fn added(counts: [Count; 23], place: usize, more: Count) -> [Count; 23]
-    requires { place < 23 }
-{
-    let mut out = counts;
-    let before = counts[place];
-    out[place] = before.plus(more);
-    out
-}
-
-// The sum over all places.
-pub fn sum(counts: [Count; 23]) -> Count {
-    let mut total = none();
-    let mut i = 0;
-    while i < 23 {
-        let one = counts[i];
-        total = total.plus(one);
-        i += 1;
-    }
-    total
 }

@@ -1,84 +1,104 @@
 // The sequences of the modal voice: every recorded call is made again.
 #![tactic(auto)]
 
-mod calls;
+pub mod numbers;
 
-use answers::calls::Progress;
+use answers::calls::{Buffers, Kind, Sums, frames_of, inputs_of, knobs_of, write_buffers};
+use answers::digests::digest_of_buffer;
+use answers::replay::{Asked, Compared};
+use ground::bits::pattern_of;
 use modal_voice::modal_voice::ModalVoice;
 use std::io;
 
-// What was compared so far, and the voice as the last call left it.
+// The voice as the calls so far left it, and what these add up to.
 #[derive(Clone, Copy)]
-struct Replayed {
+pub struct Modals {
     voice: ModalVoice,
-    progress: Progress,
+    sums: Sums,
 }
 
-// Nothing compared, with the checksum of the header.
-fn begin(checksum: u32) -> Replayed {
-    let voice = ModalVoice::new();
-    let progress = answers::calls::begin(checksum);
-    Replayed { voice, progress }
-}
-
-// After a whole call, made again.
-fn after(
-    rt: &impl Print,
-    p: Progress,
-    row: [u32; 64],
-    made: calls::Made,
-    checksum: u32,
-) -> io::Result<Replayed> {
-    let voice = made.voice;
-    let other = made.row;
-    let adds = answers::calls::voice_adds(row);
-    let progress = answers::calls::after(rt, b"modal_voice", p, row, other, adds, checksum)?;
-    Ok(Replayed { voice, progress })
-}
-
-// After a read that was no whole call.
-fn ended(before: Replayed, checksum: u32, read: usize) -> Replayed {
-    let voice = before.voice;
-    let p = before.progress;
-    let progress = answers::calls::ended(p, checksum, read);
-    Replayed { voice, progress }
-}
-
-// One call more, if there is one.
-fn step<R: io::Read>(rt: &impl Print, reader: &mut R, before: Replayed) -> io::Result<Replayed> {
-    let p = before.progress;
-    if p.read != 256 {
-        return Ok(before);
+impl Modals {
+    pub fn new() -> Modals {
+        Modals {
+            voice: ModalVoice::new(),
+            sums: Sums::default(),
+        }
     }
-    let call = answers::calls::next(reader, p.checksum)?;
-    if call.read != 256 {
-        return Ok(ended(before, call.checksum, call.read));
+
+    // A block of up to 4,096 frames; the word's last bit says which way subnormal products go.
+    fn render(&mut self, row: &mut [u32; 64]) -> Option<()> {
+        let n = frames_of(row)?;
+        let voice = self.voice;
+        let mut b = Buffers::<4096>::from_seed(row[10]);
+        let r = voice.render(
+            row[9] % 2 == 1,
+            knobs_of(row),
+            &mut b.temp[..n],
+            &mut b.temp_2[..n],
+            &mut b.out[..n],
+            &mut b.aux[..n],
+            row[9],
+        );
+        self.voice = r.voice;
+        row[11] = r.word;
+        write_buffers(
+            row,
+            35,
+            41,
+            &b.temp[..n],
+            &b.temp_2[..n],
+            &b.out[..n],
+            &b.aux[..n],
+        );
+        Some(())
     }
-    let row = call.row;
-    let voice = before.voice;
-    let made = calls::again(voice, row);
-    after(rt, p, row, made, call.checksum)
+
+    // Writes what the voice keeps: of the modes the first and the last batch, and digests of all.
+    fn write(&self, row: &mut [u32; 64]) {
+        let filter = &self.voice.excitation_filter;
+        let resonator = &self.voice.resonator;
+        let batches = &resonator.mode_filters;
+        row[12] = u32::from(self.voice.held);
+        row[13] = digest_of_buffer(&resonator.mode_amplitude);
+        row[15] = pattern_of(filter.state_1);
+        row[16] = pattern_of(filter.state_2);
+        row[17..25].copy_from_slice(&numbers::batch_words(&batches[0]));
+        row[25..33].copy_from_slice(&numbers::batch_words(&batches[5]));
+        let (first, second) = numbers::digests_of(batches);
+        row[39] = first;
+        row[40] = second;
+    }
 }
 
-// Every call, up to 65,536.
-fn read_all<R: io::Read>(rt: &impl Print, reader: &mut R, begun: Replayed) -> io::Result<Replayed> {
-    let mut p = begun;
-    let mut i: u32 = 0;
-    while i < 65536 {
-        p = step(rt, reader, p)?;
-        i += 1;
-    }
-    Ok(p)
-}
+impl Asked<64> for Modals {
+    const FILE: &'static str = "modals.bin";
 
-// The calls from a header on, and what was compared.
-pub fn replay<R: io::Read>(
-    rt: &impl Print,
-    reader: &mut R,
-    stated: u32,
-    checksum: u32,
-) -> io::Result<()> {
-    let all = read_all(rt, reader, begin(checksum))?;
-    let p = all.progress;
-    answers::calls::report(rt, b"modal_voice", b"modals.bin", p, stated)
+    const RECORD: &'static str = "call";
+
+    fn name(_row: &[u32; 64]) -> &'static str {
+        "modal_voice"
+    }
+
+    fn again(&mut self, row: &[u32; 64]) -> Option<[u32; 64]> {
+        let mut given = inputs_of(row);
+        match Kind::try_from(row[0]) {
+            Ok(Kind::Opening) => self.voice = ModalVoice::new().init(),
+            Ok(Kind::Render) => self.render(&mut given)?,
+            _ => return None,
+        }
+        self.write(&mut given);
+        Some(given)
+    }
+
+    fn count(&mut self, row: &[u32; 64], _again: Option<&[u32; 64]>, _differs: bool) {
+        self.sums.add(row);
+    }
+
+    fn lines(&self, _rt: &impl Print) -> io::Result<()> {
+        Ok(())
+    }
+
+    fn total(&self, rt: &impl Print, compared: Compared) -> io::Result<()> {
+        self.sums.total_line(rt, "modal_voice", compared)
+    }
 }

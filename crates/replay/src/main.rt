@@ -1,90 +1,46 @@
 // Asks the port every question of the records again, and prints what was compared and how much differed.
 #![tactic(auto)]
 
-use answers::{draws, format, print};
+ghost use Rattle.std.specs.Prelude.{◌≤◌};
+
+use answers::format::{self, Records};
+use answers::replay::{Asked, replay};
+use bank_answers::Banks;
+use leaf_answers::Leaves;
+use modal_answers::Modals;
 use std::rt::Files;
 use std::{fs, io};
+use string_answers::Strings;
 
 fn main(rt: HostRuntime) -> io::Result<()> {
-    leaves(&rt)?;
-    strings(&rt)?;
-    modals(&rt)?;
-    banks(&rt)
+    ask(&rt, &mut Leaves::new())?;
+    ask(&rt, &mut Strings::new())?;
+    ask(&rt, &mut Modals::new())?;
+    ask(&rt, &mut Banks::new())
 }
 
-// The leaves, function by function.
-fn leaves(rt: &(impl Files + Print)) -> io::Result<()> {
-    match opened(rt, "leaves.bin")? {
-        Some(mut f) => leaf_answers::replay(rt, &mut f.file, f.stated, f.checksum),
-        None => Ok(()),
+// Asks all that a file asks, where it can be opened and has a whole header.
+fn ask<const W: usize, S: Asked<W>>(rt: &(impl Files + Print), asked: &mut S) -> io::Result<()>
+    requires { W ≤ 64 }
+{
+    let Ok(file) = fs::open(rt, S::FILE) else {
+        return println!(rt; "{} cannot be opened", S::FILE);
+    };
+    let mut records = Records::new(file);
+    match header(rt, &mut records)? {
+        Some(stated) => replay(rt, asked, &mut records, stated),
+        None => println!(rt; "the file is shorter than its header"),
     }
 }
 
-// The string voice, sequence by sequence.
-fn strings(rt: &(impl Files + Print)) -> io::Result<()> {
-    match opened(rt, "strings.bin")? {
-        Some(mut f) => string_answers::replay(rt, &mut f.file, f.stated, f.checksum),
-        None => Ok(()),
-    }
-}
-
-// The modal voice, sequence by sequence.
-fn modals(rt: &(impl Files + Print)) -> io::Result<()> {
-    match opened(rt, "modals.bin")? {
-        Some(mut f) => modal_answers::replay(rt, &mut f.file, f.stated, f.checksum),
-        None => Ok(()),
-    }
-}
-
-// The bank, list by list.
-fn banks(rt: &(impl Files + Print)) -> io::Result<()> {
-    match opened(rt, "banks.bin")? {
-        Some(mut f) => bank_answers::replay(rt, &mut f.file, f.stated, f.checksum),
-        None => Ok(()),
-    }
-}
-
-// A file after its whole header: the number of records that it states, and its digest.
-#[derive(Drop)]
-struct File<F> {
-    file: F,
-    stated: u32,
-    checksum: u32,
-}
-
-// Opens the file of that name and reads its header; none where it cannot be opened or has no whole header.
-fn opened<R: Files + Print>(rt: &R, name: &str) -> io::Result<Option<File<R::File>>> {
-    match fs::open(rt, name) {
-        Ok(file) => header_of(rt, file),
-        Err(_) => {
-            print::say(rt, name.as_bytes())?;
-            print::say(rt, b" cannot be opened\n")?;
-            Ok(None)
-        }
-    }
-}
-
-// Reads a header and prints its text; none where it is not whole.
-fn header_of<F: io::Read + Drop>(rt: &impl Print, mut file: F) -> io::Result<Option<File<F>>> {
+// Reads a header and prints its text, and gives the number of records that it states; none where it is not whole.
+fn header<R: io::Read>(rt: &impl Print, records: &mut Records<R>) -> io::Result<Option<u32>> {
     let mut header = [0u8; 128];
-    let r = format::read_bytes(&mut file, &mut header, draws::digest_begin())?;
-    if r.read != 128 {
-        print::say(rt, b"the file is shorter than its header\n")?;
+    if records.read(&mut header)? < 128 {
         return Ok(None);
     }
-    let stated = header_line(rt, &header)?;
-    Ok(Some(File {
-        file,
-        stated,
-        checksum: r.checksum,
-    }))
-}
-
-// Prints the header's text, and gives the number of records that it states.
-fn header_line(rt: &impl Print, header: &[u8]) -> io::Result<u32> {
-    let length = format::text_length(header);
-    let text = &header[..length];
-    print::say(rt, text)?;
-    print::say(rt, b"\n")?;
-    Ok(format::trailing_number(text))
+    let text = &header[..format::text_length(&header)];
+    rt.write_all(text)?;
+    println!(rt)?;
+    Ok(Some(format::trailing_number(text)))
 }

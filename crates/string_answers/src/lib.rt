@@ -1,94 +1,109 @@
 // The sequences of the string voice: every recorded call is made again.
 #![tactic(auto)]
 
-mod calls;
+pub mod numbers;
 
-ghost use Rattle.std.specs.Prelude.{◌≡◌, length};
-
-use answers::calls::Progress;
+use answers::calls::{Buffers, Kind, Sums, frames_of, inputs_of, knobs_of, write_buffers};
+use answers::digests::digest_of_buffer;
+use answers::replay::{Asked, Compared};
+use ground::bits::float_of;
 use std::io;
 use string_voice::string_voice::StringVoice;
 
-// What was compared so far, and the voice as the last call left it.
+// The voice and its lines as the calls so far left them, and what these add up to.
 #[derive(Clone, Copy)]
-struct Replayed {
+pub struct Strings {
     voice: StringVoice,
-    progress: Progress,
+    lines: [f32; 1280],
+    sums: Sums,
 }
 
-// Nothing compared, with the checksum of the header.
-fn begin(checksum: u32) -> Replayed {
-    let voice = StringVoice::new();
-    let progress = answers::calls::begin(checksum);
-    Replayed { voice, progress }
-}
-
-// After a whole call, made again.
-fn after(
-    rt: &impl Print,
-    p: Progress,
-    row: [u32; 64],
-    made: calls::Made,
-    checksum: u32,
-) -> io::Result<Replayed> {
-    let voice = made.voice;
-    let other = made.row;
-    let adds = answers::calls::voice_adds(row);
-    let progress = answers::calls::after(rt, b"string_voice", p, row, other, adds, checksum)?;
-    Ok(Replayed { voice, progress })
-}
-
-// After a read that was no whole call.
-fn ended(before: Replayed, checksum: u32, read: usize) -> Replayed {
-    let voice = before.voice;
-    let p = before.progress;
-    let progress = answers::calls::ended(p, checksum, read);
-    Replayed { voice, progress }
-}
-
-// One call more, if there is one.
-fn step<R: io::Read>(
-    rt: &impl Print,
-    reader: &mut R,
-    before: Replayed,
-    lines: &mut [f32],
-) -> io::Result<Replayed>
-    requires { length lines.old ≡ 1280 }
-{
-    let p = before.progress;
-    if p.read != 256 {
-        return Ok(before);
+impl Strings {
+    pub fn new() -> Strings {
+        Strings {
+            voice: StringVoice::new(),
+            lines: [0.0; 1280],
+            sums: Sums::default(),
+        }
     }
-    let call = answers::calls::next(reader, p.checksum)?;
-    if call.read != 256 {
-        return Ok(ended(before, call.checksum, call.read));
+
+    // A block of up to 4,096 frames, of a voice whose places lie within its lines; none for another.
+    fn render(&mut self, row: &mut [u32; 64]) -> Option<()> {
+        let n = frames_of(row)?;
+        let voice = self.voice;
+        if voice.string.string >= 1024 {
+            return None;
+        }
+        if voice.string.stretch >= 256 {
+            return None;
+        }
+        let mut b = Buffers::<4096>::from_seed(row[10]);
+        let r = voice.render(
+            knobs_of(row),
+            &mut self.lines,
+            &mut b.temp[..n],
+            &mut b.temp_2[..n],
+            &mut b.out[..n],
+            &mut b.aux[..n],
+            row[9],
+        );
+        self.voice = r.voice;
+        row[11] = r.word;
+        write_buffers(
+            row,
+            35,
+            41,
+            &b.temp[..n],
+            &b.temp_2[..n],
+            &b.out[..n],
+            &b.aux[..n],
+        );
+        Some(())
     }
-    let row = call.row;
-    let voice = before.voice;
-    let made = calls::again(voice, row, lines);
-    after(rt, p, row, made, call.checksum)
+
+    // Writes every number that the voice keeps, and the digests of its lines.
+    fn write(&self, row: &mut [u32; 64]) {
+        row[12..35].copy_from_slice(&numbers::numbers_of(&self.voice));
+        row[39] = digest_of_buffer(&self.lines[..1024]);
+        row[40] = digest_of_buffer(&self.lines[1024..]);
+    }
 }
 
-// Every call, up to 65,536.
-fn read_all<R: io::Read>(rt: &impl Print, reader: &mut R, begun: Replayed) -> io::Result<Replayed> {
-    let mut lines = [0.0f32; 1280];
-    let mut p = begun;
-    let mut i: u32 = 0;
-    while i < 65536 {
-        p = step(rt, reader, p, &mut lines)?;
-        i += 1;
-    }
-    Ok(p)
-}
+impl Asked<64> for Strings {
+    const FILE: &'static str = "strings.bin";
 
-// The calls from a header on, and what was compared.
-pub fn replay<R: io::Read>(
-    rt: &impl Print,
-    reader: &mut R,
-    stated: u32,
-    checksum: u32,
-) -> io::Result<()> {
-    let all = read_all(rt, reader, begin(checksum))?;
-    let p = all.progress;
-    answers::calls::report(rt, b"string_voice", b"strings.bin", p, stated)
+    const RECORD: &'static str = "call";
+
+    fn name(_row: &[u32; 64]) -> &'static str {
+        "string_voice"
+    }
+
+    fn again(&mut self, row: &[u32; 64]) -> Option<[u32; 64]> {
+        let mut given = inputs_of(row);
+        match Kind::try_from(row[0]) {
+            Ok(Kind::Opening) => {
+                self.voice = StringVoice::new().init(float_of(row[3]), &mut self.lines);
+            }
+            Ok(Kind::Reset) => {
+                let voice = self.voice;
+                self.voice = voice.reset(&mut self.lines);
+            }
+            Ok(Kind::Render) => self.render(&mut given)?,
+            _ => return None,
+        }
+        self.write(&mut given);
+        Some(given)
+    }
+
+    fn count(&mut self, row: &[u32; 64], _again: Option<&[u32; 64]>, _differs: bool) {
+        self.sums.add(row);
+    }
+
+    fn lines(&self, _rt: &impl Print) -> io::Result<()> {
+        Ok(())
+    }
+
+    fn total(&self, rt: &impl Print, compared: Compared) -> io::Result<()> {
+        self.sums.total_line(rt, "string_voice", compared)
+    }
 }

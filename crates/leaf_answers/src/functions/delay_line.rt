@@ -1,9 +1,19 @@
 // `DelayLine` of delay_line.rs, in the sizes of the string and of its stretch.
-ghost use Rattle.std.specs.Prelude.{◌<◌, length};
+ghost use Rattle.std.specs.Prelude.{◌<◌, ◌≤◌, length};
 
-use answers::{draws, words};
+use crate::functions::outputs;
+use answers::digests::digest_of_buffer;
+use answers::draws;
 use ground::bits::{float_of, pattern_of};
+use ground::random::get_word;
 use utils::delay_line::AllpassOut;
+
+// The size is 1024 where its word is even, else 256.
+fn size_of(word: u32) -> usize
+    ensures { (0 < result) × (result ≤ 1024) }
+{
+    if word % 2 == 0 { 1024 } else { 256 }
+}
 
 // Writes samples from a seed, as many as said, from the place 0 on, and gives the next place.
 fn written(line: &mut [f32], seed: u32, writes: u32) -> usize
@@ -12,22 +22,27 @@ fn written(line: &mut [f32], seed: u32, writes: u32) -> usize
 {
     let mut w = seed;
     let mut at = 0;
-    let mut i = 0;
-    while i < writes {
-        w = draws::next(w);
+    for _ in 0..writes {
+        w = get_word(w);
         at = utils::delay_line::write(line, at, draws::sample(seed, w));
-        i += 1;
     }
     at
 }
 
-// What is read from a place at a delay.
-fn read_at(line: &[f32], at: usize, delay: f32) -> [u32; 7]
-    requires { at < length line.now }
-{
-    let linear = pattern_of(utils::delay_line::read_with_delay_frac(line, at, delay));
-    let hermite = pattern_of(utils::delay_line::read_hermite(line, at, delay));
-    [linear, hermite, words::low(at), 0, 0, 0, 0]
+// The lower 32 bits of a place.
+fn low(at: usize) -> u32 {
+    (at % 4294967296) as u32
+}
+
+// What is read of a written line at a delay.
+pub fn reads(size: u32, seed: u32, writes: u32, delay: u32) -> [u32; 7] {
+    let n = size_of(size);
+    let mut cells = [0.0f32; 1024];
+    let at = written(&mut cells[..n], seed, writes % 1500);
+    let x = float_of(delay);
+    let linear = utils::delay_line::read_with_delay_frac(&cells[..n], at, x);
+    let hermite = utils::delay_line::read_hermite(&cells[..n], at, x);
+    outputs([pattern_of(linear), pattern_of(hermite), low(at)])
 }
 
 // An all-pass, and then k more, each of the output before it.
@@ -42,129 +57,37 @@ fn allpasses(
     requires { place < length line.old }
 {
     let mut o = utils::delay_line::allpass(line, place, sample, delay, coefficient);
-    let mut i = 0;
-    while i < k {
+    for _ in 0..k {
         o = utils::delay_line::allpass(line, o.write_ptr, o.out, delay, coefficient);
-        i += 1;
     }
     o
 }
 
-// The last output, the next place, and the digest of the line.
-fn last_and(o: AllpassOut, digest: u32) -> [u32; 7] {
-    [
-        pattern_of(o.out),
-        words::low(o.write_ptr),
-        digest,
-        0,
-        0,
-        0,
-        0,
-    ]
-}
-
-// The all-passes of words.
-fn passed(
-    line: &mut [f32],
-    place: usize,
-    delay: u32,
-    coefficient: u32,
-    sample: u32,
-    k: u32,
-) -> AllpassOut
-    requires { place < length line.old }
-{
-    let n = words::index(delay);
-    allpasses(
+// The last output of all-passes over a written line, the next place, and the digest of the line.
+pub fn allpass(inputs: [u32; 8]) -> [u32; 7] {
+    let [size, seed, writes, delay, coefficient, sample, k, _] = inputs;
+    let n = size_of(size);
+    let mut cells = [0.0f32; 1024];
+    let line = &mut cells[..n];
+    let at = written(line, seed, writes % 1500);
+    let o = allpasses(
         line,
-        place,
+        at,
         float_of(sample),
-        n,
+        delay as usize,
         float_of(coefficient),
         k % 64,
-    )
+    );
+    outputs([pattern_of(o.out), low(o.write_ptr), digest_of_buffer(line)])
 }
 
-// Clears a line: the place, and the digests of the line before and after.
-fn cleared(line: &mut [f32]) -> [u32; 7] {
-    let before = draws::digest_of_buffer(line);
+// Clears a written line: the place, and the digests of the line before and after.
+pub fn reset(size: u32, seed: u32, writes: u32) -> [u32; 7] {
+    let n = size_of(size);
+    let mut cells = [0.0f32; 1024];
+    let line = &mut cells[..n];
+    written(line, seed, writes % 1500);
+    let before = digest_of_buffer(line);
     let at = utils::delay_line::reset(line);
-    let after = draws::digest_of_buffer(line);
-    [words::low(at), before, after, 0, 0, 0, 0]
-}
-
-// The answer of a written line whose next place is that: reads are 16, all-passes 17, the reset 18.
-fn answer_at(
-    line: &mut [f32],
-    place: usize,
-    function: u32,
-    delay: u32,
-    coefficient: u32,
-    sample: u32,
-    k: u32,
-) -> [u32; 7]
-    requires { place < length line.old }
-{
-    match function {
-        16 => read_at(line, place, float_of(delay)),
-        17 => {
-            let o = passed(line, place, delay, coefficient, sample, k);
-            last_and(o, draws::digest_of_buffer(line))
-        }
-        _ => cleared(line),
-    }
-}
-
-// The answer of a new line, once it is written.
-fn answer_of(
-    line: &mut [f32],
-    function: u32,
-    seed: u32,
-    writes: u32,
-    delay: u32,
-    coefficient: u32,
-    sample: u32,
-    k: u32,
-) -> [u32; 7]
-    requires { 0 < length line.old }
-{
-    let place = written(line, seed, writes % 1500);
-    answer_at(line, place, function, delay, coefficient, sample, k)
-}
-
-// The size is 1024 where its word is even, else 256.
-pub fn answer(
-    function: u32,
-    size: u32,
-    seed: u32,
-    writes: u32,
-    delay: u32,
-    coefficient: u32,
-    sample: u32,
-    k: u32,
-) -> [u32; 7] {
-    if size % 2 == 0 {
-        let mut line = [0.0f32; 1024];
-        return answer_of(
-            &mut line,
-            function,
-            seed,
-            writes,
-            delay,
-            coefficient,
-            sample,
-            k,
-        );
-    }
-    let mut line = [0.0f32; 256];
-    answer_of(
-        &mut line,
-        function,
-        seed,
-        writes,
-        delay,
-        coefficient,
-        sample,
-        k,
-    )
+    outputs([low(at), before, digest_of_buffer(line)])
 }

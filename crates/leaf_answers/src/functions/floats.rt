@@ -1,11 +1,10 @@
 // What the Rust does to an f32 by `as usize`, `min`, `clamp` and `abs`.
-use crate::functions::one;
-use answers::words;
+use crate::functions::{one, outputs};
 use ground::bits::float_of;
 
 pub fn whole_part(x: u32) -> [u32; 7] {
     let whole = ground::floats::whole_part(float_of(x));
-    [words::low(whole), words::high(whole), 0, 0, 0, 0, 0]
+    outputs([(whole % 4294967296) as u32, (whole / 4294967296) as u32])
 }
 
 pub fn fraction(x: u32) -> [u32; 7] {

@@ -1,14 +1,15 @@
 // The generator and the dust, from a seed.
+use crate::functions::outputs;
 use ground::bits::{float_of, pattern_of};
 
 pub fn draw(seed: u32) -> [u32; 7] {
     let word = ground::random::get_word(seed);
     let u = ground::random::get_float(word);
     let noise = ground::random::noise(word);
-    [word, pattern_of(u), pattern_of(noise), 0, 0, 0, 0]
+    outputs([word, pattern_of(u), pattern_of(noise)])
 }
 
 pub fn dust(frequency: u32, seed: u32) -> [u32; 7] {
     let drawn = noise::dust::dust(float_of(frequency), seed);
-    [pattern_of(drawn.value), drawn.word, 0, 0, 0, 0, 0]
+    outputs([pattern_of(drawn.value), drawn.word])
 }

@@ -1,6 +1,5 @@
 // `semitones_to_ratio` of units.rs, and the entries of the four tables.
-use crate::functions::{no_answer, one};
-use answers::words;
+use crate::functions::one;
 use ground::bits::float_of;
 
 pub fn semitones_to_ratio(semitones: u32) -> [u32; 7] {
@@ -8,18 +7,14 @@ pub fn semitones_to_ratio(semitones: u32) -> [u32; 7] {
 }
 
 // An entry of the stiffness, the svf shift, the high or the low pitch table.
-fn looked_up(which: u32, i: usize) -> f32 {
-    match which {
+pub fn entry(which: u32, i: u32) -> Option<[u32; 7]> {
+    let i = i as usize;
+    let looked_up = match which {
         0 => resources::stiffness::lut_stiffness(i),
         1 => resources::svf::lut_svf_shift(i),
         2 => resources::pitch::lut_pitch_ratio_high(i),
-        _ => resources::pitch::lut_pitch_ratio_low(i),
-    }
-}
-
-pub fn entry(which: u32, i: u32) -> [u32; 7] {
-    if which > 3 {
-        return no_answer();
-    }
-    one(looked_up(which, words::index(i)))
+        3 => resources::pitch::lut_pitch_ratio_low(i),
+        _ => return None,
+    };
+    Some(one(looked_up))
 }
