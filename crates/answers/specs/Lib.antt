@@ -1,3 +1,4 @@
 -- What the contracts of `answers` cite. Assumes nothing.
 pub mod Counts
 pub mod Digests
+pub mod Kinds

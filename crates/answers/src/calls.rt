@@ -1,5 +1,6 @@
 // A recorded call of a voice or of a bank: the words that all have, its buffers, and what calls add up to.
-ghost use Rattle.std.specs.Prelude.{◌≡◌, ◌+◌, ◌≤◌, IfSome};
+ghost use Rattle.std.specs.Prelude.{◌≡◌, ◌+◌, ◌%◌, ◌^◌, ◌≤◌, slice_index, IfSome};
+ghost use Rattle.answers.specs.Kinds.{Decodes};
 
 use crate::replay::Compared;
 use crate::{digests, draws};
@@ -13,10 +14,8 @@ pub enum Kind {
     Opening,
     Reset,
     Render,
-    // A list of calls begins.
-    List,
-    // A number is put in a slot.
-    Number,
+    ListBegins,
+    NumberPut,
 }
 
 // A word that names no kind of call.
@@ -26,13 +25,15 @@ pub struct UnknownKind(pub u32);
 impl TryFrom<u32> for Kind {
     type Error = UnknownKind;
 
+    ghost try_from_gives = { Decodes };
+
     fn try_from(word: u32) -> Result<Kind, UnknownKind> {
         match word {
             0 => Ok(Kind::Opening),
             1 => Ok(Kind::Reset),
             2 => Ok(Kind::Render),
-            3 => Ok(Kind::List),
-            4 => Ok(Kind::Number),
+            3 => Ok(Kind::ListBegins),
+            4 => Ok(Kind::NumberPut),
             _ => Err(UnknownKind(word)),
         }
     }
@@ -68,7 +69,7 @@ pub fn knobs_of(row: &[u32; 64]) -> Knobs {
 
 // The frames of a voice's block; none above 4096.
 pub fn frames_of(row: &[u32; 64]) -> Option<usize>
-    ensures { IfSome result (λ n. n ≤ 4096) }
+    ensures { IfSome result (λ n. (n ≡ slice_index row.now 2) × (n ≤ 4096)) }
 {
     let n = row[2] as usize;
     if n > 4096 {
@@ -134,21 +135,15 @@ pub struct Sums {
 }
 
 impl Sums {
-    pub fn add_sequence(&mut self) {
-        self.sequences = self.sequences.wrapping_add(1);
-    }
-
-    pub fn add_block(&mut self, samples: u32) {
-        self.blocks = self.blocks.wrapping_add(1);
-        self.samples = self.samples.wrapping_add(samples);
-    }
-
-    // A voice's call: an opening begins a sequence, a render is a block.
-    pub fn add(&mut self, row: &[u32; 64]) {
-        match Kind::try_from(row[0]) {
-            Ok(Kind::Opening) => self.add_sequence(),
-            Ok(Kind::Render) => self.add_block(row[2]),
-            _ => {}
+    pub fn plus(self, more: Sums) -> Sums
+        ensures sequences { result.sequences ≡ (self.sequences + more.sequences) % 2 ^ 32 }
+        ensures blocks { result.blocks ≡ (self.blocks + more.blocks) % 2 ^ 32 }
+        ensures samples { result.samples ≡ (self.samples + more.samples) % 2 ^ 32 }
+    {
+        Sums {
+            sequences: self.sequences.wrapping_add(more.sequences),
+            blocks: self.blocks.wrapping_add(more.blocks),
+            samples: self.samples.wrapping_add(more.samples),
         }
     }
 
@@ -164,5 +159,21 @@ impl Sums {
             "{name}: {sequences} sequences of {records} calls, {blocks} blocks of {samples} samples, "
         )?;
         println!(rt; "{differ} calls differ")
+    }
+}
+
+// What a voice's call adds: an opening begins a sequence, a render is a block.
+pub fn voice_adds(row: &[u32; 64]) -> Sums {
+    match Kind::try_from(row[0]) {
+        Ok(Kind::Opening) => Sums {
+            sequences: 1,
+            ..Sums::default()
+        },
+        Ok(Kind::Render) => Sums {
+            sequences: 0,
+            blocks: 1,
+            samples: row[2],
+        },
+        _ => Sums::default(),
     }
 }

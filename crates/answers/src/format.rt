@@ -1,6 +1,8 @@
 // A file: a header line of 128 bytes, then records of little-endian words.
-ghost use Rattle.std.specs.Prelude.{◌≤◌, length, IfOk};
+ghost use Rattle.std.specs.Prelude.{◌≡◌, ◌*◌, ◌<◌, ◌≤◌, length, take, IfOk, IfSome, IfNone};
+ghost use Rattle.std.specs.List.{fold};
 ghost use Rattle.answers.specs.Counts.{Counts};
+ghost use Rattle.answers.specs.Digests.{digest_with};
 
 use crate::digests;
 use std::io;
@@ -30,6 +32,7 @@ pub fn trailing_number(text: &[u8]) -> u32 {
 }
 
 // Reads until there is no room or there are no more bytes, and gives how many were read.
+// The loop stays a `while`: what each read gives says how far it goes, and the library reads to the end or fails.
 fn read_full<R: io::Read>(reader: &mut R, bytes: &mut [u8]) -> io::Result<usize>
     ensures { IfOk result (λ n. Counts n bytes.new) }
 {
@@ -55,7 +58,10 @@ pub struct Records<R> {
 }
 
 impl<R: io::Read> Records<R> {
-    pub fn new(reader: R) -> Records<R> {
+    pub fn new(reader: R) -> Records<R>
+        ensures checksum { result.checksum ≡ 2166136261 }
+        ensures left { result.left ≡ None }
+    {
         Records {
             reader,
             checksum: digests::BEGIN,
@@ -65,7 +71,8 @@ impl<R: io::Read> Records<R> {
 
     // Reads bytes, as many as there are room and bytes for.
     pub fn read(&mut self, bytes: &mut [u8]) -> io::Result<usize>
-        ensures { IfOk result (λ n. n ≤ length bytes.new) }
+        ensures bound { IfOk result (λ n. n ≤ length bytes.new) }
+        ensures digest { IfOk result (λ n. self.new.checksum ≡ fold digest_with self.old.checksum (take n bytes.new)) }
     {
         let read = read_full(&mut self.reader, bytes)?;
         self.checksum = digests::digest_of(self.checksum, &bytes[..read]);
@@ -75,6 +82,7 @@ impl<R: io::Read> Records<R> {
     // The words of the next record; none where what is left makes no whole one.
     pub fn next<const W: usize>(&mut self) -> io::Result<Option<[u32; W]>>
         requires { W ≤ 64 }
+        ensures end { IfOk result (λ o. IfNone o (IfSome self.new.left (λ n. n < 4 * W))) }
     {
         let mut bytes = [[0u8; 4]; W];
         let read = self.read(bytes.as_flattened_mut())?;

@@ -6,3 +6,4 @@ pub mod digests;
 pub mod draws;
 pub mod format;
 pub mod replay;
+pub mod words;

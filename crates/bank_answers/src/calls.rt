@@ -4,6 +4,7 @@ ghost use Rattle.std.specs.Prelude.{◌≤◌, length};
 use crate::Banks;
 use answers::calls::{Buffers, knobs_of, write_buffers};
 use answers::draws;
+use answers::words::low;
 use ground::bits::float_of;
 use slots::answers::Answer;
 use slots::slots::Bank;
@@ -13,11 +14,6 @@ fn lent(word: u32, slice: &[f32]) -> usize
     ensures { result ≤ length slice.now }
 {
     slice.len().min(word as usize)
-}
-
-// The lower 32 bits of a number.
-fn low(x: usize) -> u32 {
-    (x % 4294967296) as u32
 }
 
 // Writes 01's number and the three counts.

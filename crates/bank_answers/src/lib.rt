@@ -27,8 +27,24 @@ fn digest_of_slot(slot: &Slot) -> u32 {
     modal_answers::numbers::digest_with_voice(string, &slot.modal)
 }
 
-impl Banks {
-    pub fn new() -> Banks {
+// What a call adds: a list begins, or a block was rendered.
+fn adds_of(kind: Option<Kind>, row: &[u32; 64]) -> Sums {
+    match kind {
+        Some(Kind::ListBegins) => Sums {
+            sequences: 1,
+            ..Sums::default()
+        },
+        Some(Kind::Render) if row[17] == 0 => Sums {
+            sequences: 0,
+            blocks: 1,
+            samples: row[2],
+        },
+        _ => Sums::default(),
+    }
+}
+
+impl Default for Banks {
+    fn default() -> Banks {
         Banks {
             bank: Bank::fresh(),
             word: 0,
@@ -37,7 +53,9 @@ impl Banks {
             sums: Sums::default(),
         }
     }
+}
 
+impl Banks {
     // Writes the word, and the digests of line memory and of every slot's record.
     fn write(&self, row: &mut [u32; 64]) {
         row[21] = self.word;
@@ -72,8 +90,8 @@ impl Asked<64> for Banks {
             Ok(Kind::Opening) => self.open(&mut given),
             Ok(Kind::Reset) => self.reset(&mut given),
             Ok(Kind::Render) => self.render(&mut given),
-            Ok(Kind::List) => self.begin(row),
-            Ok(Kind::Number) => self.put(row),
+            Ok(Kind::ListBegins) => self.begin(row),
+            Ok(Kind::NumberPut) => self.put(row),
             Err(_) => return None,
         }
         self.write(&mut given);
@@ -81,13 +99,9 @@ impl Asked<64> for Banks {
     }
 
     fn count(&mut self, row: &[u32; 64], again: Option<&[u32; 64]>, _differs: bool) {
-        let kind = Kind::try_from(row[0]);
-        match kind {
-            Ok(Kind::List) => self.sums.add_sequence(),
-            Ok(Kind::Render) if row[17] == 0 => self.sums.add_block(row[2]),
-            _ => {}
-        }
-        if let (Some(given), Ok(Kind::Opening | Kind::Reset | Kind::Render)) = (again, kind) {
+        let kind = Kind::try_from(row[0]).ok();
+        self.sums = self.sums.plus(adds_of(kind, row));
+        if let (Some(given), Some(Kind::Opening | Kind::Reset | Kind::Render)) = (again, kind) {
             self.count_number(given);
         }
     }

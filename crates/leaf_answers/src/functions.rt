@@ -7,7 +7,7 @@ pub mod interpolation;
 pub mod random;
 pub mod tables;
 
-ghost use Rattle.std.specs.Prelude.{◌≤◌};
+ghost use Rattle.std.specs.Prelude.{◌≡◌, ◌-◌, ◌≤◌, ◌++◌, replicate};
 
 use answers::replay::NOTHING;
 
@@ -153,13 +153,14 @@ pub fn answer(function: Function, inputs: [u32; 8]) -> Option<[u32; 7]> {
 }
 
 // The outputs of a record: the words of nothing where there is no answer.
-pub fn outputs_of(function: Function, inputs: [u32; 8]) -> [u32; 7] {
+pub(crate) fn outputs_of(function: Function, inputs: [u32; 8]) -> [u32; 7] {
     answer(function, inputs).unwrap_or([NOTHING; 7])
 }
 
 // Outputs, and zeros for those that a function does not use.
 pub fn outputs<const N: usize>(given: [u32; N]) -> [u32; 7]
     requires { N ≤ 7 }
+    ensures { result ≡ given.entry ++ replicate (7 - N) 0 }
 {
     let mut all = [0; 7];
     all[..N].copy_from_slice(&given);

@@ -12,17 +12,9 @@ use std::io;
 use tally::{Count, place};
 
 // What was compared and what differed, by function number; the place 0 is for what no function has.
-#[derive(Clone, Copy)]
+#[derive(Clone, Copy, Default)]
 pub struct Leaves {
     counts: [Count; 23],
-}
-
-impl Leaves {
-    pub fn new() -> Leaves {
-        Leaves {
-            counts: [Count::default(); 23],
-        }
-    }
 }
 
 // What a record counts for: nothing but a difference where it asks nothing.

@@ -4,12 +4,12 @@ use answers::{digests, draws};
 
 // A single case with its outputs, or the digest of many cases.
 #[derive(Clone, Copy, PartialEq, Eq)]
-pub enum Kind {
+pub(crate) enum Kind {
     Raw,
     Digest,
 }
 
-pub fn kind_of(row: &[u32; 16]) -> Option<Kind> {
+pub(crate) fn kind_of(row: &[u32; 16]) -> Option<Kind> {
     match row[0] / 65536 {
         0 => Some(Kind::Raw),
         1 => Some(Kind::Digest),
@@ -17,7 +17,7 @@ pub fn kind_of(row: &[u32; 16]) -> Option<Kind> {
     }
 }
 
-pub fn function_of(row: &[u32; 16]) -> Option<Function> {
+pub(crate) fn function_of(row: &[u32; 16]) -> Option<Function> {
     Function::try_from(row[0] % 65536).ok()
 }
 
@@ -74,7 +74,7 @@ fn digest_again(function: Function, row: &[u32; 16]) -> Option<[u32; 16]> {
 }
 
 // The record that the port gives to the same question; none where there is no such question.
-pub fn again(row: &[u32; 16]) -> Option<[u32; 16]> {
+pub(crate) fn again(row: &[u32; 16]) -> Option<[u32; 16]> {
     let function = function_of(row)?;
     match kind_of(row)? {
         Kind::Raw => Some(raw_again(function, row)),

@@ -3,7 +3,9 @@
 
 pub mod numbers;
 
-use answers::calls::{Buffers, Kind, Sums, frames_of, inputs_of, knobs_of, write_buffers};
+use answers::calls::{
+    Buffers, Kind, Sums, frames_of, inputs_of, knobs_of, voice_adds, write_buffers,
+};
 use answers::digests::digest_of_buffer;
 use answers::replay::{Asked, Compared};
 use ground::bits::pattern_of;
@@ -17,14 +19,16 @@ pub struct Modals {
     sums: Sums,
 }
 
-impl Modals {
-    pub fn new() -> Modals {
+impl Default for Modals {
+    fn default() -> Modals {
         Modals {
             voice: ModalVoice::new(),
             sums: Sums::default(),
         }
     }
+}
 
+impl Modals {
     // A block of up to 4,096 frames; the word's last bit says which way subnormal products go.
     fn render(&mut self, row: &mut [u32; 64]) -> Option<()> {
         let n = frames_of(row)?;
@@ -91,7 +95,7 @@ impl Asked<64> for Modals {
     }
 
     fn count(&mut self, row: &[u32; 64], _again: Option<&[u32; 64]>, _differs: bool) {
-        self.sums.add(row);
+        self.sums = self.sums.plus(voice_adds(row));
     }
 
     fn lines(&self, _rt: &impl Print) -> io::Result<()> {

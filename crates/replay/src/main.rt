@@ -13,10 +13,10 @@ use std::{fs, io};
 use string_answers::Strings;
 
 fn main(rt: HostRuntime) -> io::Result<()> {
-    ask(&rt, &mut Leaves::new())?;
-    ask(&rt, &mut Strings::new())?;
-    ask(&rt, &mut Modals::new())?;
-    ask(&rt, &mut Banks::new())
+    ask(&rt, &mut Leaves::default())?;
+    ask(&rt, &mut Strings::default())?;
+    ask(&rt, &mut Modals::default())?;
+    ask(&rt, &mut Banks::default())
 }
 
 // Asks all that a file asks, where it can be opened and has a whole header.

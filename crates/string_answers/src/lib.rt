@@ -3,7 +3,9 @@
 
 pub mod numbers;
 
-use answers::calls::{Buffers, Kind, Sums, frames_of, inputs_of, knobs_of, write_buffers};
+use answers::calls::{
+    Buffers, Kind, Sums, frames_of, inputs_of, knobs_of, voice_adds, write_buffers,
+};
 use answers::digests::digest_of_buffer;
 use answers::replay::{Asked, Compared};
 use ground::bits::float_of;
@@ -18,15 +20,17 @@ pub struct Strings {
     sums: Sums,
 }
 
-impl Strings {
-    pub fn new() -> Strings {
+impl Default for Strings {
+    fn default() -> Strings {
         Strings {
             voice: StringVoice::new(),
             lines: [0.0; 1280],
             sums: Sums::default(),
         }
     }
+}
 
+impl Strings {
     // A block of up to 4,096 frames, of a voice whose places lie within its lines; none for another.
     fn render(&mut self, row: &mut [u32; 64]) -> Option<()> {
         let n = frames_of(row)?;
@@ -96,7 +100,7 @@ impl Asked<64> for Strings {
     }
 
     fn count(&mut self, row: &[u32; 64], _again: Option<&[u32; 64]>, _differs: bool) {
-        self.sums.add(row);
+        self.sums = self.sums.plus(voice_adds(row));
     }
 
     fn lines(&self, _rt: &impl Print) -> io::Result<()> {

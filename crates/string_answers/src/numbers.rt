@@ -1,43 +1,42 @@
 // What a string voice keeps, as the words of its record.
+ghost use Rattle.std.specs.Prelude.{◌≡◌};
+ghost use Rattle.string_answers.specs.Numbers.{numbers_of};
+
+use answers::words::low;
 use ground::bits::pattern_of;
 use string_voice::string_voice::StringVoice;
 
-// The lower 32 bits of a number.
-fn low(x: usize) -> u32 {
-    (x % 4294967296) as u32
-}
-
 // Every number that a voice keeps: its places and what is left of the burst, then both filters and the string's own floats.
-pub fn numbers_of(voice: &StringVoice) -> [u32; 23] {
+pub fn numbers_of(voice: &StringVoice) -> [u32; 23]
+    ensures { result ≡ numbers_of voice.now }
+{
     let s = &voice.string;
     let excitation = &voice.excitation_filter;
     let damping = &s.iir_damping_filter;
     let blocker = &s.dc_blocker;
-    let places = [s.string, s.stretch, voice.remaining_noise_samples];
-    let floats = [
-        excitation.g,
-        excitation.r,
-        excitation.h,
-        excitation.state_1,
-        excitation.state_2,
-        damping.g,
-        damping.r,
-        damping.h,
-        damping.state_1,
-        damping.state_2,
-        blocker.pole,
-        blocker.x,
-        blocker.y,
-        s.delay,
-        s.dispersion_noise,
-        s.curved_bridge,
-        s.src_phase,
-        s.out_sample_0,
-        s.out_sample_1,
-        s.sample_rate_hz,
-    ];
-    let mut words = [0; 23];
-    words[..3].copy_from_slice(&places.map(low));
-    words[3..].copy_from_slice(&floats.map(pattern_of));
-    words
+    [
+        low(s.string),
+        low(s.stretch),
+        low(voice.remaining_noise_samples),
+        pattern_of(excitation.g),
+        pattern_of(excitation.r),
+        pattern_of(excitation.h),
+        pattern_of(excitation.state_1),
+        pattern_of(excitation.state_2),
+        pattern_of(damping.g),
+        pattern_of(damping.r),
+        pattern_of(damping.h),
+        pattern_of(damping.state_1),
+        pattern_of(damping.state_2),
+        pattern_of(blocker.pole),
+        pattern_of(blocker.x),
+        pattern_of(blocker.y),
+        pattern_of(s.delay),
+        pattern_of(s.dispersion_noise),
+        pattern_of(s.curved_bridge),
+        pattern_of(s.src_phase),
+        pattern_of(s.out_sample_0),
+        pattern_of(s.out_sample_1),
+        pattern_of(s.sample_rate_hz),
+    ]
 }

@@ -4,6 +4,7 @@ ghost use Rattle.std.specs.Prelude.{◌<◌, ◌≤◌, length};
 use crate::functions::outputs;
 use answers::digests::digest_of_buffer;
 use answers::draws;
+use answers::words::low;
 use ground::bits::{float_of, pattern_of};
 use ground::random::get_word;
 use utils::delay_line::AllpassOut;
@@ -27,11 +28,6 @@ fn written(line: &mut [f32], seed: u32, writes: u32) -> usize
         at = utils::delay_line::write(line, at, draws::sample(seed, w));
     }
     at
-}
-
-// The lower 32 bits of a place.
-fn low(at: usize) -> u32 {
-    (at % 4294967296) as u32
 }
 
 // What is read of a written line at a delay.

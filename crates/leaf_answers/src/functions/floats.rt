@@ -1,10 +1,11 @@
 // What the Rust does to an f32 by `as usize`, `min`, `clamp` and `abs`.
 use crate::functions::{one, outputs};
+use answers::words::low;
 use ground::bits::float_of;
 
 pub fn whole_part(x: u32) -> [u32; 7] {
     let whole = ground::floats::whole_part(float_of(x));
-    outputs([(whole % 4294967296) as u32, (whole / 4294967296) as u32])
+    outputs([low(whole), low(whole / 4294967296)])
 }
 
 pub fn fraction(x: u32) -> [u32; 7] {

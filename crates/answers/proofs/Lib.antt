@@ -1,2 +1,0 @@
--- Laws that the proofs of this crate and of others cite. Assumes nothing.
-pub mod Counting

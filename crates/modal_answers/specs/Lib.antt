@@ -1,0 +1,2 @@
+-- What the contracts of `modal_answers` cite. Assumes nothing.
+pub mod Numbers
