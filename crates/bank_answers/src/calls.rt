@@ -34,6 +34,7 @@ impl Banks {
     }
 
     // Puts a number in a slot, as no call leaves it: 0 is its kind, 1 and 2 its write places, 3 what is left.
+    // Which one stays the record's number: an enum would name the four fields a second time, and nothing else reads it.
     pub(crate) fn put(&mut self, row: &[u32; 64]) {
         let slot = row[11] as usize;
         if slot > 7 {
