@@ -2,9 +2,11 @@
 ghost use Rattle.std.specs.Prelude.{◌≡◌, ◌+◌, ◌%◌, ◌^◌, ◌≤◌, slice_index, IfSome};
 ghost use Rattle.answers.specs.Kinds.{Decodes};
 
+use crate::digests::digest_of_buffer;
 use crate::replay::Compared;
 use crate::{digests, draws};
 use ground::bits::{float_of, pattern_of};
+use noise::buffers::Buffers;
 use noise::excitation::Knobs;
 use std::io;
 
@@ -78,9 +80,9 @@ pub fn frames_of(row: &[u32; 64]) -> Option<usize>
     Some(n)
 }
 
-// The four buffers that a render is lent, N samples of each.
+// N samples for each of the four buffers that a render is lent.
 #[derive(Clone, Copy)]
-pub struct Buffers<const N: usize> {
+pub struct Samples<const N: usize> {
     pub temp: [f32; N],
     pub temp_2: [f32; N],
     pub out: [f32; N],
@@ -94,10 +96,10 @@ fn filled<const N: usize>(seed: u32) -> [f32; N] {
     buffer
 }
 
-impl<const N: usize> Buffers<N> {
-    // Buffers with the samples from a seed word and from the three after it.
-    pub fn from_seed(z: u32) -> Buffers<N> {
-        Buffers {
+impl<const N: usize> Samples<N> {
+    // The samples from a seed word and from the three after it.
+    pub fn from_seed(z: u32) -> Samples<N> {
+        Samples {
             temp: filled(z),
             temp_2: filled(z.wrapping_add(1)),
             out: filled(z.wrapping_add(2)),
@@ -107,20 +109,20 @@ impl<const N: usize> Buffers<N> {
 }
 
 // Writes the digests of four buffers to a row from a place on, and the first samples of out from another.
-pub fn write_buffers(
-    row: &mut [u32; 64],
-    at: usize,
-    samples_at: usize,
-    temp: &[f32],
-    temp_2: &[f32],
-    out: &[f32],
-    aux: &[f32],
-)
+pub fn write_buffers(row: &mut [u32; 64], at: usize, samples_at: usize, b: &Buffers)
     requires { (at + 4 ≤ 64) × (samples_at + 16 ≤ 64) }
 {
-    let digests = [temp, temp_2, out, aux].map(digests::digest_of_buffer);
+    let digests = [
+        digest_of_buffer(b.temp),
+        digest_of_buffer(b.temp_2),
+        digest_of_buffer(b.out),
+        digest_of_buffer(b.aux),
+    ];
     row[at..at + 4].copy_from_slice(&digests);
-    for (word, x) in row[samples_at..samples_at + 16].iter_mut().zip(out) {
+    for (word, x) in row[samples_at..samples_at + 16]
+        .iter_mut()
+        .zip(b.out.iter())
+    {
         *word = pattern_of(*x);
     }
 }

@@ -2,10 +2,11 @@
 ghost use Rattle.std.specs.Prelude.{◌≤◌, length};
 
 use crate::Banks;
-use answers::calls::{Buffers, knobs_of, write_buffers};
+use answers::calls::{Samples, knobs_of, write_buffers};
 use answers::draws;
 use answers::words::low;
 use ground::bits::float_of;
+use noise::buffers::Buffers;
 use slots::answers::Answer;
 use slots::slots::Bank;
 
@@ -76,11 +77,17 @@ impl Banks {
 
     // A block in buffers of up to 4,224 frames, of the lengths that the row says.
     pub(crate) fn render(&mut self, row: &mut [u32; 64]) {
-        let mut b = Buffers::<4224>::from_seed(row[10]);
-        let n = lent(row[2], &b.temp);
-        let n_2 = lent(row[13], &b.temp_2);
-        let n_out = lent(row[14], &b.out);
-        let n_aux = lent(row[15], &b.aux);
+        let mut samples = Samples::<4224>::from_seed(row[10]);
+        let n = lent(row[2], &samples.temp);
+        let n_2 = lent(row[13], &samples.temp_2);
+        let n_out = lent(row[14], &samples.out);
+        let n_aux = lent(row[15], &samples.aux);
+        let mut b = Buffers {
+            temp: &mut samples.temp[..n],
+            temp_2: &mut samples.temp_2[..n_2],
+            out: &mut samples.out[..n_out],
+            aux: &mut samples.aux[..n_aux],
+        };
         let n_lines = lent(row[16], &self.lines);
         let before = self.bank;
         let word = self.word;
@@ -90,22 +97,11 @@ impl Banks {
             word,
             row[11] as usize,
             knobs_of(row),
-            &mut b.temp[..n],
-            &mut b.temp_2[..n_2],
-            &mut b.out[..n_out],
-            &mut b.aux[..n_aux],
+            &mut b,
         );
         self.bank = r.bank;
         self.word = r.word;
         write_answer(row, r.answer);
-        write_buffers(
-            row,
-            22,
-            35,
-            &b.temp[..n],
-            &b.temp_2[..n_2],
-            &b.out[..n_out],
-            &b.aux[..n_aux],
-        );
+        write_buffers(row, 22, 35, &b);
     }
 }

@@ -4,12 +4,13 @@
 pub mod numbers;
 
 use answers::calls::{
-    Buffers, Kind, Sums, frames_of, inputs_of, knobs_of, voice_adds, write_buffers,
+    Kind, Samples, Sums, frames_of, inputs_of, knobs_of, voice_adds, write_buffers,
 };
 use answers::digests::digest_of_buffer;
 use answers::replay::{Asked, Compared};
 use ground::bits::pattern_of;
 use modal_voice::modal_voice::ModalVoice;
+use noise::buffers::Buffers;
 use std::io;
 
 // The voice as the calls so far left it, and what these add up to.
@@ -33,27 +34,17 @@ impl Modals {
     fn render(&mut self, row: &mut [u32; 64]) -> Option<()> {
         let n = frames_of(row)?;
         let voice = self.voice;
-        let mut b = Buffers::<4096>::from_seed(row[10]);
-        let r = voice.render(
-            row[9] % 2 == 1,
-            knobs_of(row),
-            &mut b.temp[..n],
-            &mut b.temp_2[..n],
-            &mut b.out[..n],
-            &mut b.aux[..n],
-            row[9],
-        );
+        let mut samples = Samples::<4096>::from_seed(row[10]);
+        let mut b = Buffers {
+            temp: &mut samples.temp[..n],
+            temp_2: &mut samples.temp_2[..n],
+            out: &mut samples.out[..n],
+            aux: &mut samples.aux[..n],
+        };
+        let r = voice.render(row[9] % 2 == 1, knobs_of(row), &mut b, row[9]);
         self.voice = r.voice;
         row[11] = r.word;
-        write_buffers(
-            row,
-            35,
-            41,
-            &b.temp[..n],
-            &b.temp_2[..n],
-            &b.out[..n],
-            &b.aux[..n],
-        );
+        write_buffers(row, 35, 41, &b);
         Some(())
     }
 
