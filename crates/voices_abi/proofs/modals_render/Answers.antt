@@ -16,9 +16,11 @@ returns-then-not-alike c =
 
 pub loop-init : goal.loop-init
 loop-init c =
-    let a = c.args in
-    (begin _ _ _ _ a.word
-    (rw (opened_is a.temp.now a.temp_2.now a.out.now a.aux.now _ _ c.new.ensures c.init-voice.ensures) (opened_sized a.temp.now a.temp_2.now a.out.now a.aux.now (sym c.alike.ensures ∙ c.if-not-alike.false))), record { temp = refl; temp2 = refl; out = refl; aux = refl })
+    let a = c.args in (
+      begin _ _ _ _ a.word
+          (rw (opened_is a.temp.now a.temp_2.now a.out.now a.aux.now _ _ c.new.ensures c.init-voice.ensures) (opened_sized a.temp.now a.temp_2.now a.out.now a.aux.now (sym c.alike.ensures ∙ c.if-not-alike.false))),
+      record { temp = refl; temp2 = refl; out = refl; aux = refl },
+    )
 
 pub render-r-requires : goal.render-r-requires
 render-r-requires c =

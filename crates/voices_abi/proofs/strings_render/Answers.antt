@@ -16,10 +16,12 @@ returns-then-not-fits c =
 
 pub loop-init : goal.loop-init
 loop-init c =
-    let a = c.args in
-    (begin _ _ _ _ a.word
-    (rw (opened_is a.sample_rate_hz a.lines.now a.temp.now a.temp_2.now a.out.now a.aux.now _ _ _ c.new.ensures c.init-voice.ensures)
-    (opened_sized a.lines.now a.temp.now a.temp_2.now a.out.now a.aux.now (sym c.fits.ensures ∙ c.if-not-fits.false) a.sample_rate_hz)), record { temp = refl; temp2 = refl; out = refl; aux = refl })
+    let a = c.args in (
+      begin _ _ _ _ a.word
+          (rw (opened_is a.sample_rate_hz a.lines.now a.temp.now a.temp_2.now a.out.now a.aux.now _ _ _ c.new.ensures c.init-voice.ensures)
+          (opened_sized a.lines.now a.temp.now a.temp_2.now a.out.now a.aux.now (sym c.fits.ensures ∙ c.if-not-fits.false) a.sample_rate_hz)),
+      record { temp = refl; temp2 = refl; out = refl; aux = refl },
+    )
 
 pub render-r-requires : goal.render-r-requires
 render-r-requires c = let d = c.loop.invariant.0.kept in (d.good, omega (arith, d.out, d.small), record { temp2_is = omega (arith, d.temp, d.temp2); out_is = omega (arith, d.temp, d.out); aux_is = omega (arith, d.temp, d.aux) })
