@@ -1,13 +1,13 @@
 -- One loop over the frames is the excitation filter, then aux, then the modes: laws over plain values. Assumes nothing.
 use mathlib.Core.Path.{◌≡◌, refl, sym, ◌∙◌, ap}
-use mathlib.Core.Bool.{Bool, false, cond}
-use mathlib.Core.List.{List}
+use mathlib.Core.Bool.{Bool, not}
+use mathlib.Core.List.{List, [], ◌∷◌}
 use Prim.Native.Nat.{ℕ, ◌+◌, ◌*◌, ◌^◌, ◌≤◌, ◌<◌, min}
 use native.Mathlib.Omega.{arith}
-use borrow.Author.Tests.{lt-ltb, le-ltb}
+use lib.Dec.{eqb}
 use lib.ListN.{get_or, length, set}
 use lib.Ieee.{Float, nan}
-use Rattle.ground.specs.F32.{◌⊕◌, ◌⊗◌, c0, c1}
+use Rattle.ground.specs.F32.{◌⊕◌, c1}
 use Rattle.ground.specs.Draw.{run}
 use Rattle.ground.specs.Frames.{scan}
 use Rattle.ground.proofs.Frames.{Scan, frames_begin, length_scan, scan_turn, scan_end}
@@ -20,19 +20,17 @@ use Rattle.modes.specs.declared.resonator.Batch.{Batch}
 use Rattle.modes.specs.declared.resonator.Mode.{Mode}
 use Rattle.modes.specs.declared.resonator.Modes.{Modes}
 use Rattle.modes.specs.declared.resonator.States.{States}
-use Rattle.modal_voice.specs.declared.modal_voice.Ahead.{Ahead}
+use Rattle.noise.specs.declared.ahead.Passed.{Passed}
+use Rattle.noise.specs.Ahead.{Stays, ahead_of}
+use Rattle.noise.proofs.OneAhead.{ahead_step, ahead_end}
+use Rattle.modal_voice.specs.declared.modal_voice.LowPass.{LowPass}
 use Rattle.modal_voice.specs.declared.modal_voice.ModalVoice.{ModalVoice}
-use Rattle.modes.specs.declared.resonator.Ticked.{Ticked}
-use Rattle.modes.specs.Resonator.{mode_of, tick_of, low_step, low_block}
+use Rattle.modes.specs.Resonator.{mode_of, low_block}
 use Rattle.modes.specs.OnePass.{modes_for, states_of, filters_of, frame_of, one_pass}
 use Rattle.modal_voice.specs.ModalVoice.{cutoff_for, resonance_for, excitation, held_after, excitation_words, excitation_counts, render_of}
-use Rattle.modal_voice.specs.OneLoop.{Framed, frames_of, Sung, sung_of, has_same_memory, memory, pass_of, Stays, ahead_of}
+use Rattle.modal_voice.specs.OneLoop.{Framed, frames_of, Sung, sung_of, has_same_memory, filter_of}
 use Rattle.modes.proofs.OnePass.{processed}
 use Rattle.modal_voice.proofs.Halves.{excited, sounded, rendered}
-
--- a sample through the excitation filter
-abbrev pub low_of : Mode → ResonatorSvf → Float → ResonatorSvf × Float
-low_of k s x = low_step k s x nan
 
 -- a block of n frames, and what its filter leaves in temp_2
 pub record Block (temp temp2 aux filtered : List Float) (n : ℕ) : Type 0 where
@@ -42,129 +40,115 @@ pub record Block (temp temp2 aux filtered : List Float) (n : ℕ) : Type 0 where
   pub filtered_size : length filtered ≡ n
   pub small : n * 4 < 2 ^ 63
 
--- what the calls of a filter's step ensure, put together
-pub filter_passed : (k : Mode) (s : ResonatorSvf) (x : Float) {t : Ticked} {y : Float} {b : Bool} → t ≡ tick_of k s x → y ≡ k.gain ⊗ t.lp → b ≡ has_same_memory s t.svf
-    → ◌≡◌ {A = Ahead} (record { state_1 = t.svf.state_1; state_2 = t.svf.state_2; x = c0 ⊕ y; stands = b }) (pass_of k s x)
-unfolding pass_of scan
-filter_passed k s x et ey eb =
-    λ i. record {
-      state_1 = (et i).svf.state_1;
-      state_2 = (et i).svf.state_2;
-      x = (ap (λ (y : Float). c0 ⊕ y) ey ∙ ap (λ (t : Ticked). c0 ⊕ k.gain ⊗ t.lp) et) i;
-      stands = (eb ∙ ap (λ (t : Ticked). has_same_memory s t.svf) et) i;
-    }
+-- whether two excitation filters keep the same
+abbrev pub same : LowPass → LowPass → Bool
+same f t = has_same_memory f.svf t.svf
 
--- the filter ahead, within the block and past its end
-pub ahead_within : {o : Ahead} (k : Mode) (s : ResonatorSvf) (xs : List Float) (i : ℕ) → i < length xs → o ≡ pass_of k s (get_or xs i nan) → o ≡ ahead_of k s xs i
-unfolding ahead_of
-ahead_within k s xs i l e = rw (lt-ltb i (length xs) l) e
-
-pub ahead_past : (k : Mode) (s : ResonatorSvf) (xs : List Float) (i : ℕ) → length xs ≤ i
-    → ◌≡◌ {A = Ahead} (record { state_1 = s.state_1; state_2 = s.state_2; x = c0; stands = false }) (ahead_of k s xs i)
-unfolding ahead_of
-ahead_past k s xs i l = rw (le-ltb i (length xs) l)
-
-module _ {o : Ahead} (k : Mode) (s : ResonatorSvf) (xs : List Float) (i : ℕ) (e : o ≡ ahead_of k s xs i) where
-  pub ahead_step : i < length xs → ◌≡◌ {A = ResonatorSvf × Float} (memory o, o.x) (low_of k s (get_or xs i nan))
-  unfolding ahead_of pass_of
-  ahead_step l =
-      ap (λ (o : Ahead). (memory o, o.x)) e
-      ∙ ap (λ (b : Bool). let p = cond b (pass_of k s (get_or xs i nan)) (record { state_1 = s.state_1; state_2 = s.state_2; x = c0; stands = false }) in (memory p, p.x))
-      (lt-ltb i (length xs) l)
-
-  pub ahead_end : length xs ≤ i → memory o ≡ s
-  ahead_end l = ap memory (e ∙ sym (ahead_past k s xs i l))
+-- the excitation filter over all frames is its memory's loop
+low_scan : (f : LowPass) (xs ys : List Float)
+    → ◌≡◌ {A = ResonatorSvf × List Float} ((scan (fill filter_of) f xs ys).0.svf, (scan (fill filter_of) f xs ys).1) (low_block f.mode f.svf xs ys)
+unfolding low_block scan
+low_scan f [] ys = refl
+low_scan f (x ∷ xs) [] = refl
+low_scan f (x ∷ xs) (y ∷ ys) = ap (λ (q : ResonatorSvf × List Float). (q.0, (filter_of f x).1 ∷ q.1)) (low_scan (filter_of f x).0 xs ys)
 
 -- ---- a loop over the frames of a block that filters them, and mixes what it filtered into aux
-module _ (k : Mode) (s : ResonatorSvf) (temp temp2 aux : List Float) where
+module _ (f : LowPass) (temp temp2 aux : List Float) where
   -- what the filter leaves in temp_2
   abbrev filled : List Float
-  filled = (scan (fill (low_of k)) s temp temp2).1
+  filled = (scan (fill filter_of) f temp temp2).1
 
   -- i frames of n are done
-  pub record Passing (n : ℕ) (i : ℕ) (ts us : List Float) (o : Ahead) : Type 0 where
-    pub lead : Lead (low_of k) nan s temp temp2 i ts (memory o, o.x)
+  pub record Passing (n : ℕ) (i : ℕ) (ts us : List Float) (o : Passed LowPass) : Type 0 where
+    pub lead : Lead filter_of nan f temp temp2 i ts (o.filter, o.out)
     pub mixed : Scan add_step tt filled aux i tt us
-    pub stays : Stays k o (get_or temp i nan)
+    pub stays : Stays filter_of same o (get_or temp i nan)
     pub block : Block temp temp2 aux filled n
 
-  pub passing_begin : {o : Ahead} → length temp2 ≡ length temp → length aux ≡ length temp → length temp * 4 < 2 ^ 63
-      → o ≡ ahead_of k s temp 0 → Stays k o (get_or temp 0 nan) → Passing (length temp) 0 temp2 aux o
+  pub passing_begin : {o : Passed LowPass} → length temp2 ≡ length temp → length aux ≡ length temp → length temp * 4 < 2 ^ 63
+      → o ≡ ahead_of filter_of same f temp 0 → Stays filter_of same o (get_or temp 0 nan) → Passing (length temp) 0 temp2 aux o
   passing_begin h2 ha b e t =
       record {
-        lead = lead_begin (ahead_step k s temp 0 e) (ahead_end k s temp 0 e);
+        lead = lead_begin (ahead_step filter_of same f temp 0 e) (ahead_end filter_of same f temp 0 e);
         mixed = frames_begin;
         stays = t;
         block = record {
           all = refl;
           temp2_size = h2;
           aux_size = ha;
-          filtered_size = length_scan (fill (low_of k)) s temp temp2 ∙ h2;
+          filtered_size = length_scan (fill filter_of) f temp temp2 ∙ h2;
           small = b;
         };
       }
 
   -- what is put into temp_2 at the frame i
-  pub passing_puts : {n i : ℕ} {ts us : List Float} {o : Ahead} → Passing n i ts us o → i < n → o.x ≡ get_or filled i nan
+  pub passing_puts : {n i : ℕ} {ts us : List Float} {o : Passed LowPass} → Passing n i ts us o → i < n → o.out ≡ get_or filled i nan
   passing_puts v l = let z = v.block in lead_puts nan v.lead (omega (arith, z, l))
 
-  pub passing_turn : {n i : ℕ} {ts us : List Float} {o p : Ahead} → Passing n i ts us o → i < n
-      → p ≡ ahead_of k (memory o) temp (i + 1) → Stays k p (get_or temp (i + 1) nan)
-      → Passing n (i + 1) (set ts i o.x) (set us i (get_or us i nan ⊕ o.x)) p
+  pub passing_turn : {n i : ℕ} {ts us : List Float} {o p : Passed LowPass} → Passing n i ts us o → i < n
+      → p ≡ ahead_of filter_of same o.filter temp (i + 1) → Stays filter_of same p (get_or temp (i + 1) nan)
+      → Passing n (i + 1) (set ts i o.out) (set us i (get_or us i nan ⊕ o.out)) p
   passing_turn {i = i} {us = us} {o = o} v l e t =
       let z = v.block in
       let within : i < min (length temp) (length temp2) = omega (arith, z, l) in
       record {
-        lead = lead_turn nan v.lead within (ahead_step k (memory o) temp (i + 1) e) (ahead_end k (memory o) temp (i + 1) e);
+        lead = lead_turn nan v.lead within (ahead_step filter_of same o.filter temp (i + 1) e) (ahead_end filter_of same o.filter temp (i + 1) e);
         mixed = scan_turn nan nan v.mixed (omega (arith, z, l)) (ap (λ (x : Float). (tt, get_or us i nan ⊕ x)) (passing_puts v l));
         stays = t;
         block = z;
       }
 
-  pub passing_end : {n i : ℕ} {ts us : List Float} {o : Ahead} {f : ResonatorSvf} → Passing n i ts us o → n ≤ i → f ≡ memory o
-      → (◌≡◌ {A = ResonatorSvf × List Float} (f, ts) (low_block k s temp temp2)) × (us ≡ added ts aux)
-  unfolding low_block
-  passing_end {ts = ts} v l h =
+  pub passing_end : {n i : ℕ} {ts us : List Float} {o : Passed LowPass} → Passing n i ts us o → n ≤ i
+      → (◌≡◌ {A = ResonatorSvf × List Float} (o.filter.svf, ts) (low_block f.mode f.svf temp temp2)) × (us ≡ added ts aux)
+  passing_end {ts = ts} v l =
       let z = v.block in
-      let e = ap (λ (f : ResonatorSvf). (f, ts)) h ∙ lead_end v.lead (omega (arith, z.all, l)) in
-      (e, ap (λ (q : Unit {0} × List Float). q.1) (scan_end v.mixed (omega (arith, z, l))) ∙ ap (λ (q : ResonatorSvf × List Float). added q.1 aux) (sym e))
+      let e = lead_end v.lead (omega (arith, z.all, l)) in (
+        ap (λ (q : LowPass × List Float). (q.0.svf, q.1)) e ∙ low_scan f temp temp2,
+        ap (λ (q : Unit {0} × List Float). q.1) (scan_end v.mixed (omega (arith, z, l))) ∙ ap (λ (q : LowPass × List Float). added q.1 aux) (sym e),
+      )
+
+-- the filter where a loop begins whose const parameter AROUND is the number n
+abbrev pub low_pass_at : ℕ → Mode → ResonatorSvf → LowPass
+low_pass_at n k s = record { mode = k; svf = s; around = not (eqb n 0) }
 
 -- ---- the same through all modes; m is what the modes' coefficients are, states what they keep before it
-module _ (k : Mode) (s : ResonatorSvf) (m : Modes) (states : States) (temp temp2 out aux : List Float) where
-  pub record Underway (n : ℕ) (i : ℕ) (ts os us : List Float) (now : States) (o : Ahead) : Type 0 where
-    pub passing : Passing k s temp temp2 aux n i ts us o
-    pub sung : Scan (frame_of m) states (filled k s temp temp2 aux) out i now os
+module _ (f : LowPass) (m : Modes) (states : States) (temp temp2 out aux : List Float) where
+  pub record Underway (n : ℕ) (i : ℕ) (ts os us : List Float) (now : States) (o : Passed LowPass) : Type 0 where
+    pub passing : Passing f temp temp2 aux n i ts us o
+    pub sung : Scan (frame_of m) states (filled f temp temp2 aux) out i now os
     pub out_size : length out ≡ n
 
-  pub underway_begin : {o : Ahead} → Alike temp temp2 out aux → length temp * 4 < 2 ^ 63
-      → o ≡ ahead_of k s temp 0 → Stays k o (get_or temp 0 nan) → Underway (length temp) 0 temp2 out aux states o
+  pub underway_begin : {o : Passed LowPass} → Alike temp temp2 out aux → length temp * 4 < 2 ^ 63
+      → o ≡ ahead_of filter_of same f temp 0 → Stays filter_of same o (get_or temp 0 nan) → Underway (length temp) 0 temp2 out aux states o
   underway_begin a b e t =
-      record { passing = passing_begin k s temp temp2 aux a.temp2_is a.aux_is b e t; sung = frames_begin; out_size = a.out_is }
+      record { passing = passing_begin f temp temp2 aux a.temp2_is a.aux_is b e t; sung = frames_begin; out_size = a.out_is }
 
-  pub underway_turn : {n i : ℕ} {ts os us : List Float} {now now' : States} {o p : Ahead} {y : Float}
+  pub underway_turn : {n i : ℕ} {ts os us : List Float} {now now' : States} {o p : Passed LowPass} {y : Float}
       → Underway n i ts os us now o → i < n
-      → p ≡ ahead_of k (memory o) temp (i + 1) → Stays k p (get_or temp (i + 1) nan)
-      → ◌≡◌ {A = States × Float} (now', y) (frame_of m now o.x (get_or os i nan))
-      → Underway n (i + 1) (set ts i o.x) (set os i y) (set us i (get_or us i nan ⊕ o.x)) now' p
-  underway_turn {i = i} {os = os} {now = now} {o = o} v l e t f =
+      → p ≡ ahead_of filter_of same o.filter temp (i + 1) → Stays filter_of same p (get_or temp (i + 1) nan)
+      → ◌≡◌ {A = States × Float} (now', y) (frame_of m now o.out (get_or os i nan))
+      → Underway n (i + 1) (set ts i o.out) (set os i y) (set us i (get_or us i nan ⊕ o.out)) now' p
+  underway_turn {i = i} {os = os} {now = now} {o = o} v l e t h =
       let z = v.passing.block in
-      let x = passing_puts k s temp temp2 aux v.passing l in
+      let x = passing_puts f temp temp2 aux v.passing l in
       record {
-        passing = passing_turn k s temp temp2 aux v.passing l e t;
-        sung = scan_turn nan nan v.sung (omega (arith, z, v.out_size, l)) (f ∙ ap (λ (x : Float). frame_of m now x (get_or os i nan)) x);
+        passing = passing_turn f temp temp2 aux v.passing l e t;
+        sung = scan_turn nan nan v.sung (omega (arith, z, v.out_size, l)) (h ∙ ap (λ (x : Float). frame_of m now x (get_or os i nan)) x);
         out_size = v.out_size;
       }
 
-  pub underway_end : {n i : ℕ} {ts os us : List Float} {now : States} {o : Ahead} {f : ResonatorSvf} → Underway n i ts os us now o → n ≤ i → f ≡ memory o
-      → ◌≡◌ {A = Sung} (record { filter = f; states = now; temp2 = ts; out = os; aux = us }) (sung_of k s m states temp temp2 out aux)
-  unfolding sung_of low_block
-  underway_end v l h =
+  pub underway_end : {n i : ℕ} {ts os us : List Float} {now : States} {o : Passed LowPass} → Underway n i ts os us now o → n ≤ i
+      → ◌≡◌ {A = Sung} (record { filter = o.filter.svf; states = now; temp2 = ts; out = os; aux = us }) (sung_of f.mode f.svf m states temp temp2 out aux)
+  unfolding sung_of
+  underway_end v l =
       let z = v.passing.block in
-      let e = passing_end k s temp temp2 aux v.passing l h in
+      let e = passing_end f temp temp2 aux v.passing l in
       let ea = e.1 ∙ ap (λ (q : ResonatorSvf × List Float). added q.1 aux) e.0 in
-      let eo = scan_end v.sung (omega (arith, z, v.out_size, l)) in
+      let low = ap (λ (q : ResonatorSvf × List Float). q.1) (low_scan f temp temp2) in
+      let eo = scan_end v.sung (omega (arith, z, v.out_size, l)) ∙ ap (λ (xs : List Float). scan (frame_of m) states xs out) low in
       λ j. record { filter = (e.0 j).0; states = (eo j).0; temp2 = (e.0 j).1; out = (eo j).1; aux = ea j }
 
+module _ (k : Mode) (s : ResonatorSvf) (m : Modes) (states : States) (temp temp2 out aux : List Float) where
   -- the filter over all frames first, then all modes
   pub sung_apart : {z : ResonatorSvf} {ts os us : List Float} {now : States} → ◌≡◌ {A = ResonatorSvf × List Float} (z, ts) (low_block k s temp temp2) → us ≡ added ts aux
       → ◌≡◌ {A = States × List Float} (now, os) (scan (frame_of m) states ts out)

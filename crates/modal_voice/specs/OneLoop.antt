@@ -1,7 +1,7 @@
 -- Both halves' loops of a render as one: the excitation filter a frame ahead of the modes. Assumes nothing.
-use Rattle.std.specs.Prelude.{◌≡◌, Bool, true, false, ◌&&◌, cond, List, ℕ, ltb, length, get_or, Float}
+use Rattle.std.specs.Prelude.{◌≡◌, Bool, ◌&&◌, List, Float}
 use Rattle.std.specs.Float.{nan}
-use Rattle.ground.specs.F32.{c0}
+use Rattle.std.proofs.Common.{sym}
 use Rattle.ground.specs.Floats.{same_float}
 use Rattle.ground.specs.Frames.{scan}
 use Rattle.noise.specs.Excitation.{added}
@@ -10,7 +10,7 @@ use Rattle.modes.specs.declared.resonator.Batch.{Batch}
 use Rattle.modes.specs.declared.resonator.Mode.{Mode}
 use Rattle.modes.specs.declared.resonator.Modes.{Modes}
 use Rattle.modes.specs.declared.resonator.States.{States}
-use Rattle.modal_voice.specs.declared.modal_voice.Ahead.{Ahead}
+use Rattle.modal_voice.specs.declared.modal_voice.LowPass.{LowPass}
 use Rattle.modes.specs.Resonator.{low_step, low_block}
 use Rattle.modes.specs.OnePass.{frame_of, one_pass}
 
@@ -46,18 +46,10 @@ sung_of k s m states temp temp2 out aux =
 abbrev pub has_same_memory : ResonatorSvf → ResonatorSvf → Bool
 has_same_memory s t = same_float s.state_1 t.state_1 && same_float s.state_2 t.state_2
 
--- what the filter keeps
-abbrev pub memory : Ahead → ResonatorSvf
-memory o = record { state_1 = o.state_1; state_2 = o.state_2 }
+-- the excitation filter after a sample, and the sample that it gives
+abbrev pub filter_of : LowPass → Float → LowPass × Float
+filter_of f x = let u = low_step f.mode f.svf x nan in (record { mode = f.mode; svf = u.0; around = f.around }, u.1)
 
--- a sample through the filter, with whether its memory stands
-unfoldable pub pass_of : Mode → ResonatorSvf → Float → Ahead
-pass_of k s x = let u = low_step k s x nan in record { state_1 = u.0.state_1; state_2 = u.0.state_2; x = u.1; stands = has_same_memory s u.0 }
-
--- a filter that stands makes the same of the same sample
-abbrev pub Stays : Mode → Ahead → Float → Type 0
-Stays k o x = o.stands ≡ true → pass_of k (memory o) x ≡ o
-
--- the filter past the frame i; past the last it stands as it is
-unfoldable pub ahead_of : Mode → ResonatorSvf → List Float → ℕ → Ahead
-ahead_of k s xs i = cond (ltb i (length xs)) (pass_of k s (get_or xs i nan)) (record { state_1 = s.state_1; state_2 = s.state_2; x = c0; stands = false })
+-- a filter whose memory stands is the filter that it was
+pub filter_stays : (f : LowPass) (x : Float) → (f.svf.state_1 ≡ (filter_of f x).0.svf.state_1) × (f.svf.state_2 ≡ (filter_of f x).0.svf.state_2) → (filter_of f x).0 ≡ f
+filter_stays f x e = λ i. record { mode = f.mode; svf = record { state_1 = sym e.0 i; state_2 = sym e.1 i }; around = f.around }

@@ -1,16 +1,16 @@
 // Simple modal synthesis voice with a mallet exciter: click -> LPF -> resonator. With sustain the click is replaced by dust.
-ghost use Rattle.std.specs.Prelude.{◌≡◌, true, false, cond, ◌+◌, ◌<◌, ◌≤◌, length, get_or};
-ghost use Rattle.std.specs.Float.{nan};
+ghost use Rattle.std.specs.Prelude.{◌≡◌, cond, ◌≤◌, length};
 ghost use Rattle.ground.specs.F32.{◌⊗◌, c0·7, c1·5, c2, c4, c36, c60};
 ghost use Rattle.ground.specs.Draw.{ret, run, Ran};
 ghost use Rattle.noise.specs.Excitation.{Alike, added};
 ghost use Rattle.noise.specs.Buffers.{IsAlike, IsSame};
 ghost use Rattle.modes.specs.Resonator.{low_block};
 ghost use Rattle.modes.specs.OnePass.{FullStates};
-ghost use Rattle.modal_voice.specs.OneLoop.{Framed, frames_of, Sung, sung_of, has_same_memory, memory, pass_of, Stays, ahead_of};
+ghost use Rattle.modal_voice.specs.OneLoop.{Framed, frames_of, Sung, sung_of, has_same_memory, filter_of, filter_stays};
 ghost use Rattle.modal_voice.specs.ModalVoice.{voice_new, voice_init, cutoff_for, strike_of, clicked, excitation, held_after, excitation_words, excitation_counts, Excited, excite_of, Sounded, sound_of, After, render_of};
 
 use modes::resonator::{Batch, Mode, Modes, Quiet, Resonator, ResonatorSvf, States};
+use noise::ahead::{Filter, Passed};
 use noise::buffers::Buffers;
 use noise::excitation::{Counts, Knobs, Rendered};
 
@@ -98,15 +98,6 @@ fn counts_of(sustain: bool, n: usize) -> Counts
     }
 }
 
-// What the excitation filter keeps after a frame, what it gave there, and whether its memory stands.
-#[derive(Clone, Copy)]
-pub struct Ahead {
-    pub state_1: f32,
-    pub state_2: f32,
-    pub x: f32,
-    pub stands: bool,
-}
-
 // Both filters after a block.
 #[derive(Clone, Copy)]
 pub struct Filtered {
@@ -114,73 +105,33 @@ pub struct Filtered {
     pub mode_filters: [Batch; 6],
 }
 
-// Whether the memory of two filters is the same.
-fn stands(s: ResonatorSvf, t: ResonatorSvf) -> bool
-    ensures { (result ≡ has_same_memory s t) × (result ≡ true → s ≡ t) }
-{
-    if ground::bits::same(s.state_1, t.state_1) {
-        return ground::bits::same(s.state_2, t.state_2);
-    }
-    false
+// The excitation filter at its mode; `around` subnormal products where its memory is small.
+#[derive(Clone, Copy)]
+pub struct LowPass {
+    pub mode: Mode,
+    pub svf: ResonatorSvf,
+    pub around: bool,
 }
 
-// A sample through the excitation filter; `around` subnormal products where its memory is small.
-fn pass(around: bool, k: Mode, s: ResonatorSvf, in_: f32) -> Ahead
-    ensures { (result ≡ pass_of k s in_) × Stays k result in_ }
-{
-    let small = around & modes::resonator::is_small(s);
-    let t = modes::resonator::tick_at(small, k, s, in_);
-    Ahead {
-        state_1: t.svf.state_1,
-        state_2: t.svf.state_2,
-        x: 0.0 + modes::resonator::scale(small, k.gain, t.lp),
-        stands: stands(s, t.svf),
-    }
-}
+impl Filter for LowPass {
+    ghost step = { filter_of };
 
-// The excitation filter past the first frame.
-fn filter_first(k: Mode, s: ResonatorSvf, temp: &[f32]) -> Ahead
-    ensures { (result ≡ ahead_of k s temp.now 0) × Stays k result (get_or temp.now 0 nan) }
-{
-    if 0 < temp.len() {
-        return pass(false, k, s, temp[0]);
-    }
-    Ahead {
-        state_1: s.state_1,
-        state_2: s.state_2,
-        x: 0.0,
-        stands: false,
-    }
-}
+    ghost same = { λ f t. has_same_memory f.svf t.svf };
 
-// The excitation filter past the frame i + 1, where o is the filter past the frame i.
-fn filter_on(around: bool, k: Mode, o: Ahead, temp: &[f32], i: usize) -> Ahead
-    requires { Stays k o (get_or temp.now i nan) × (i < length temp.now) }
-    ensures { (result ≡ ahead_of k (memory o) temp.now (i + 1)) × Stays k result (get_or temp.now (i + 1) nan) }
-{
-    if i + 1 < temp.len() {
-        if o.stands {
-            if ground::bits::same(temp[i], temp[i + 1]) {
-                return o;
-            }
-        }
-        return pass(around, k, memory(o), temp[i + 1]);
-    }
-    Ahead {
-        state_1: o.state_1,
-        state_2: o.state_2,
-        x: 0.0,
-        stands: false,
-    }
-}
+    ghost alike = { λ f t. (f.svf.state_1 ≡ t.svf.state_1) × (f.svf.state_2 ≡ t.svf.state_2) };
 
-// What the excitation filter keeps.
-fn memory(o: Ahead) -> ResonatorSvf
-    ensures { result ≡ memory o }
-{
-    ResonatorSvf {
-        state_1: o.state_1,
-        state_2: o.state_2,
+    ghost stays = { filter_stays };
+
+    fn step(self, x: f32) -> (LowPass, f32) {
+        let small = self.around & modes::resonator::is_small(self.svf);
+        let t = modes::resonator::tick_at(small, self.mode, self.svf, x);
+        let given = 0.0 + modes::resonator::scale(small, self.mode.gain, t.lp);
+        (LowPass { svf: t.svf, ..self }, given)
+    }
+
+    fn stands(self, after: LowPass) -> bool {
+        ground::bits::same(self.svf.state_1, after.svf.state_1)
+            && ground::bits::same(self.svf.state_2, after.svf.state_2)
     }
 }
 
@@ -202,10 +153,15 @@ fn frames_in_one<const AROUND: bool>(
         low: false,
         high: false,
     };
-    let mut ahead = filter_first(k, s, temp);
+    let filter = LowPass {
+        mode: k,
+        svf: s,
+        around: AROUND,
+    };
+    let mut ahead = Passed::first(filter, temp);
     for i in 0..temp.len() {
-        let x = ahead.x;
-        ahead = filter_on(AROUND, k, ahead, temp, i);
+        let x = ahead.out;
+        ahead = ahead.on(temp, i);
         temp_2[i] = x;
         aux[i] += x;
         if AROUND {
@@ -213,7 +169,7 @@ fn frames_in_one<const AROUND: bool>(
         }
         out[i] = m.frame_at(quiet, states, x, out[i]);
     }
-    memory(ahead)
+    ahead.filter.svf
 }
 
 // The excitation filter over all frames, and its mix into aux: `frames_in_one` without modes, which has no states to lend.
@@ -227,14 +183,19 @@ fn filter_frames(
     requires { (length temp_2.old ≡ length temp.now) × (length aux.old ≡ length temp.now) }
     ensures { ((result, temp_2.new) ≡ low_block k s temp.now temp_2.old) × (aux.new ≡ added temp_2.new aux.old) }
 {
-    let mut ahead = filter_first(k, s, temp);
+    let filter = LowPass {
+        mode: k,
+        svf: s,
+        around: false,
+    };
+    let mut passed = Passed::first(filter, temp);
     for i in 0..temp.len() {
-        let given = ahead.x;
-        ahead = filter_on(false, k, ahead, temp, i);
+        let given = passed.out;
+        passed = passed.on(temp, i);
         temp_2[i] = given;
         aux[i] += given;
     }
-    memory(ahead)
+    passed.filter.svf
 }
 
 // At most 64 frames, the filter and each half of the modes by itself.
