@@ -5,7 +5,7 @@ pub mod functions;
 pub mod records;
 pub mod tally;
 
-use answers::replay::{Asked, Compared};
+use answers::replay::{Asked, Compared, NOTHING};
 use functions::Function;
 use records::Kind;
 use std::io;
@@ -24,13 +24,11 @@ fn count_of(row: &[u32; 16], asks: bool, differs: bool) -> Count {
         ..Count::default()
     };
     if asks {
-        match records::kind_of(row) {
-            Some(Kind::Raw) => count.raw = 1,
-            Some(Kind::Digest) => {
-                count.digests = 1;
-                count.cases = row[2];
-            }
-            None => {}
+        if records::kind_of(row) == Some(Kind::Raw) {
+            count.raw = 1;
+        } else {
+            count.digests = 1;
+            count.cases = row[2];
         }
     }
     count
@@ -53,7 +51,8 @@ impl Asked<16> for Leaves {
     }
 
     fn count(&mut self, row: &[u32; 16], again: Option<&[u32; 16]>, differs: bool) {
-        let more = count_of(row, again.is_some(), differs);
+        // A record that begins with the word of nothing counts as a run.
+        let more = count_of(row, again.is_some() || row[0] == NOTHING, differs);
         let at = place(records::function_of(row));
         let before = self.counts[at];
         self.counts[at] = before.plus(more);
