@@ -1,10 +1,9 @@
 -- One loop over the frames is the excitation filter, then aux, then the modes: laws over plain values. Assumes nothing.
 use mathlib.Core.Path.{◌≡◌, refl, sym, ◌∙◌, ap}
-use mathlib.Core.Bool.{Bool, not}
+use mathlib.Core.Bool.{Bool}
 use mathlib.Core.List.{List, [], ◌∷◌}
 use Prim.Native.Nat.{ℕ, ◌+◌, ◌*◌, ◌^◌, ◌≤◌, ◌<◌, min}
 use native.Mathlib.Omega.{arith}
-use lib.Dec.{eqb}
 use lib.ListN.{get_or, length, set}
 use lib.Ieee.{Float, nan}
 use Rattle.ground.specs.F32.{◌⊕◌, c1}
@@ -41,11 +40,11 @@ pub record Block (temp temp2 aux filtered : List Float) (n : ℕ) : Type 0 where
   pub small : n * 4 < 2 ^ 63
 
 -- whether two excitation filters keep the same
-abbrev pub same : LowPass → LowPass → Bool
+abbrev pub same : {A : ℕ} → LowPass A → LowPass A → Bool
 same f t = has_same_memory f.svf t.svf
 
 -- the excitation filter over all frames is its memory's loop
-low_scan : (f : LowPass) (xs ys : List Float)
+low_scan : {A : ℕ} (f : LowPass A) (xs ys : List Float)
     → ◌≡◌ {A = ResonatorSvf × List Float} ((scan (fill filter_of) f xs ys).0.svf, (scan (fill filter_of) f xs ys).1) (low_block f.mode f.svf xs ys)
 unfolding low_block scan
 low_scan f [] ys = refl
@@ -53,19 +52,19 @@ low_scan f (x ∷ xs) [] = refl
 low_scan f (x ∷ xs) (y ∷ ys) = ap (λ (q : ResonatorSvf × List Float). (q.0, (filter_of f x).1 ∷ q.1)) (low_scan (filter_of f x).0 xs ys)
 
 -- ---- a loop over the frames of a block that filters them, and mixes what it filtered into aux
-module _ (f : LowPass) (temp temp2 aux : List Float) where
+module _ {A : ℕ} (f : LowPass A) (temp temp2 aux : List Float) where
   -- what the filter leaves in temp_2
   abbrev filled : List Float
   filled = (scan (fill filter_of) f temp temp2).1
 
   -- i frames of n are done
-  pub record Passing (n : ℕ) (i : ℕ) (ts us : List Float) (o : Passed LowPass) : Type 0 where
+  pub record Passing (n : ℕ) (i : ℕ) (ts us : List Float) (o : Passed (LowPass A)) : Type 0 where
     pub lead : Lead filter_of nan f temp temp2 i ts (o.filter, o.out)
     pub mixed : Scan add_step tt filled aux i tt us
     pub stays : Stays filter_of same o (get_or temp i nan)
     pub block : Block temp temp2 aux filled n
 
-  pub passing_begin : {o : Passed LowPass} → length temp2 ≡ length temp → length aux ≡ length temp → length temp * 4 < 2 ^ 63
+  pub passing_begin : {o : Passed (LowPass A)} → length temp2 ≡ length temp → length aux ≡ length temp → length temp * 4 < 2 ^ 63
       → o ≡ ahead_of filter_of same f temp 0 → Stays filter_of same o (get_or temp 0 nan) → Passing (length temp) 0 temp2 aux o
   passing_begin h2 ha b e t =
       record {
@@ -82,10 +81,10 @@ module _ (f : LowPass) (temp temp2 aux : List Float) where
       }
 
   -- what is put into temp_2 at the frame i
-  pub passing_puts : {n i : ℕ} {ts us : List Float} {o : Passed LowPass} → Passing n i ts us o → i < n → o.out ≡ get_or filled i nan
+  pub passing_puts : {n i : ℕ} {ts us : List Float} {o : Passed (LowPass A)} → Passing n i ts us o → i < n → o.out ≡ get_or filled i nan
   passing_puts v l = let z = v.block in lead_puts nan v.lead (omega (arith, z, l))
 
-  pub passing_turn : {n i : ℕ} {ts us : List Float} {o p : Passed LowPass} → Passing n i ts us o → i < n
+  pub passing_turn : {n i : ℕ} {ts us : List Float} {o p : Passed (LowPass A)} → Passing n i ts us o → i < n
       → p ≡ ahead_of filter_of same o.filter temp (i + 1) → Stays filter_of same p (get_or temp (i + 1) nan)
       → Passing n (i + 1) (set ts i o.out) (set us i (get_or us i nan ⊕ o.out)) p
   passing_turn {i = i} {us = us} {o = o} v l e t =
@@ -98,32 +97,28 @@ module _ (f : LowPass) (temp temp2 aux : List Float) where
         block = z;
       }
 
-  pub passing_end : {n i : ℕ} {ts us : List Float} {o : Passed LowPass} → Passing n i ts us o → n ≤ i
+  pub passing_end : {n i : ℕ} {ts us : List Float} {o : Passed (LowPass A)} → Passing n i ts us o → n ≤ i
       → (◌≡◌ {A = ResonatorSvf × List Float} (o.filter.svf, ts) (low_block f.mode f.svf temp temp2)) × (us ≡ added ts aux)
   passing_end {ts = ts} v l =
       let z = v.block in
       let e = lead_end v.lead (omega (arith, z.all, l)) in (
-        ap (λ (q : LowPass × List Float). (q.0.svf, q.1)) e ∙ low_scan f temp temp2,
-        ap (λ (q : Unit {0} × List Float). q.1) (scan_end v.mixed (omega (arith, z, l))) ∙ ap (λ (q : LowPass × List Float). added q.1 aux) (sym e),
+        ap (λ (q : LowPass A × List Float). (q.0.svf, q.1)) e ∙ low_scan f temp temp2,
+        ap (λ (q : Unit {0} × List Float). q.1) (scan_end v.mixed (omega (arith, z, l))) ∙ ap (λ (q : LowPass A × List Float). added q.1 aux) (sym e),
       )
 
--- the filter where a loop begins whose const parameter AROUND is the number n
-abbrev pub low_pass_at : ℕ → Mode → ResonatorSvf → LowPass
-low_pass_at n k s = record { mode = k; svf = s; around = not (eqb n 0) }
-
 -- ---- the same through all modes; m is what the modes' coefficients are, states what they keep before it
-module _ (f : LowPass) (m : Modes) (states : States) (temp temp2 out aux : List Float) where
-  pub record Underway (n : ℕ) (i : ℕ) (ts os us : List Float) (now : States) (o : Passed LowPass) : Type 0 where
+module _ {A : ℕ} (f : LowPass A) (m : Modes) (states : States) (temp temp2 out aux : List Float) where
+  pub record Underway (n : ℕ) (i : ℕ) (ts os us : List Float) (now : States) (o : Passed (LowPass A)) : Type 0 where
     pub passing : Passing f temp temp2 aux n i ts us o
     pub sung : Scan (frame_of m) states (filled f temp temp2 aux) out i now os
     pub out_size : length out ≡ n
 
-  pub underway_begin : {o : Passed LowPass} → Alike temp temp2 out aux → length temp * 4 < 2 ^ 63
+  pub underway_begin : {o : Passed (LowPass A)} → Alike temp temp2 out aux → length temp * 4 < 2 ^ 63
       → o ≡ ahead_of filter_of same f temp 0 → Stays filter_of same o (get_or temp 0 nan) → Underway (length temp) 0 temp2 out aux states o
   underway_begin a b e t =
       record { passing = passing_begin f temp temp2 aux a.temp2_is a.aux_is b e t; sung = frames_begin; out_size = a.out_is }
 
-  pub underway_turn : {n i : ℕ} {ts os us : List Float} {now now' : States} {o p : Passed LowPass} {y : Float}
+  pub underway_turn : {n i : ℕ} {ts os us : List Float} {now now' : States} {o p : Passed (LowPass A)} {y : Float}
       → Underway n i ts os us now o → i < n
       → p ≡ ahead_of filter_of same o.filter temp (i + 1) → Stays filter_of same p (get_or temp (i + 1) nan)
       → ◌≡◌ {A = States × Float} (now', y) (frame_of m now o.out (get_or os i nan))
@@ -137,7 +132,7 @@ module _ (f : LowPass) (m : Modes) (states : States) (temp temp2 out aux : List 
         out_size = v.out_size;
       }
 
-  pub underway_end : {n i : ℕ} {ts os us : List Float} {now : States} {o : Passed LowPass} → Underway n i ts os us now o → n ≤ i
+  pub underway_end : {n i : ℕ} {ts os us : List Float} {now : States} {o : Passed (LowPass A)} → Underway n i ts os us now o → n ≤ i
       → ◌≡◌ {A = Sung} (record { filter = o.filter.svf; states = now; temp2 = ts; out = os; aux = us }) (sung_of f.mode f.svf m states temp temp2 out aux)
   unfolding sung_of
   underway_end v l =

@@ -1,5 +1,5 @@
 -- Both halves' loops of a render as one: the excitation filter a frame ahead of the modes. Assumes nothing.
-use Rattle.std.specs.Prelude.{◌≡◌, Bool, ◌&&◌, List, Float}
+use Rattle.std.specs.Prelude.{◌≡◌, ℕ, Bool, ◌&&◌, List, Float}
 use Rattle.std.specs.Float.{nan}
 use Rattle.std.proofs.Common.{sym}
 use Rattle.ground.specs.Floats.{same_float}
@@ -47,9 +47,9 @@ abbrev pub has_same_memory : ResonatorSvf → ResonatorSvf → Bool
 has_same_memory s t = same_float s.state_1 t.state_1 && same_float s.state_2 t.state_2
 
 -- the excitation filter after a sample, and the sample that it gives
-abbrev pub filter_of : LowPass → Float → LowPass × Float
-filter_of f x = let u = low_step f.mode f.svf x nan in (record { mode = f.mode; svf = u.0; around = f.around }, u.1)
+abbrev pub filter_of : {A : ℕ} → LowPass A → Float → LowPass A × Float
+filter_of f x = let u = low_step f.mode f.svf x nan in (record { mode = f.mode; svf = u.0 }, u.1)
 
 -- a filter whose memory stands is the filter that it was
-pub filter_stays : (f : LowPass) (x : Float) → (f.svf.state_1 ≡ (filter_of f x).0.svf.state_1) × (f.svf.state_2 ≡ (filter_of f x).0.svf.state_2) → (filter_of f x).0 ≡ f
-filter_stays f x e = λ i. record { mode = f.mode; svf = record { state_1 = sym e.0 i; state_2 = sym e.1 i }; around = f.around }
+pub filter_stays : {A : ℕ} (f : LowPass A) (x : Float) → (f.svf.state_1 ≡ (filter_of f x).0.svf.state_1) × (f.svf.state_2 ≡ (filter_of f x).0.svf.state_2) → (filter_of f x).0 ≡ f
+filter_stays f x e = λ i. record { mode = f.mode; svf = record { state_1 = sym e.0 i; state_2 = sym e.1 i } }

@@ -105,15 +105,25 @@ pub struct Filtered {
     pub mode_filters: [Batch; 6],
 }
 
-// The excitation filter at its mode; `around` subnormal products where its memory is small.
+// The excitation filter at its mode; around subnormal products at AROUND, where its memory is small.
 #[derive(Clone, Copy)]
-pub struct LowPass {
+pub struct LowPass<const AROUND: bool> {
     pub mode: Mode,
     pub svf: ResonatorSvf,
-    pub around: bool,
 }
 
-impl Filter for LowPass {
+impl<const AROUND: bool> LowPass<AROUND> {
+    // A sample through it; at SMALL its products are taken as if they were subnormal.
+    fn pass<const SMALL: bool>(self, x: f32) -> (LowPass<AROUND>, f32)
+        ensures { result ≡ filter_of self.entry x }
+    {
+        let t = modes::resonator::tick::<SMALL>(self.mode, self.svf, x);
+        let given = 0.0 + modes::resonator::times::<SMALL>(self.mode.gain, t.lp);
+        (LowPass { svf: t.svf, ..self }, given)
+    }
+}
+
+impl<const AROUND: bool> Filter for LowPass<AROUND> {
     ghost step = { filter_of };
 
     ghost same = { λ f t. has_same_memory f.svf t.svf };
@@ -122,14 +132,17 @@ impl Filter for LowPass {
 
     ghost stays = { filter_stays };
 
-    fn step(self, x: f32) -> (LowPass, f32) {
-        let small = self.around & modes::resonator::is_small(self.svf);
-        let t = modes::resonator::tick_at(small, self.mode, self.svf, x);
-        let given = 0.0 + modes::resonator::scale(small, self.mode.gain, t.lp);
-        (LowPass { svf: t.svf, ..self }, given)
+    // As a call it takes the frames of all modes a seventh longer.
+    #[inline(always)]
+    fn step(self, x: f32) -> (LowPass<AROUND>, f32) {
+        if AROUND && modes::resonator::is_small(self.svf) {
+            self.pass::<true>(x)
+        } else {
+            self.pass::<false>(x)
+        }
     }
 
-    fn stands(self, after: LowPass) -> bool {
+    fn stands(self, after: LowPass<AROUND>) -> bool {
         ground::bits::same(self.svf.state_1, after.svf.state_1)
             && ground::bits::same(self.svf.state_2, after.svf.state_2)
     }
@@ -153,11 +166,7 @@ fn frames_in_one<const AROUND: bool>(
         low: false,
         high: false,
     };
-    let filter = LowPass {
-        mode: k,
-        svf: s,
-        around: AROUND,
-    };
+    let filter = LowPass::<AROUND> { mode: k, svf: s };
     let mut ahead = Passed::first(filter, temp);
     for i in 0..temp.len() {
         let x = ahead.out;
@@ -183,11 +192,7 @@ fn filter_frames(
     requires { (length temp_2.old ≡ length temp.now) × (length aux.old ≡ length temp.now) }
     ensures { ((result, temp_2.new) ≡ low_block k s temp.now temp_2.old) × (aux.new ≡ added temp_2.new aux.old) }
 {
-    let filter = LowPass {
-        mode: k,
-        svf: s,
-        around: false,
-    };
+    let filter = LowPass::<false> { mode: k, svf: s };
     let mut passed = Passed::first(filter, temp);
     for i in 0..temp.len() {
         let given = passed.out;

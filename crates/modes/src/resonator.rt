@@ -144,14 +144,14 @@ pub fn is_small(s: ResonatorSvf) -> bool
 }
 
 // The product of a and b; at SMALL as if it were subnormal.
-fn times<const SMALL: bool>(a: f32, b: f32) -> f32
+pub fn times<const SMALL: bool>(a: f32, b: f32) -> f32
     ensures { result ≡ a ⊗ b }
 {
     if SMALL { product(a, b) } else { a * b }
 }
 
 // A sample through a mode; at SMALL its products are taken as if they were subnormal.
-fn tick<const SMALL: bool>(k: Mode, s: ResonatorSvf, x: f32) -> Ticked
+pub fn tick<const SMALL: bool>(k: Mode, s: ResonatorSvf, x: f32) -> Ticked
     ensures { result ≡ tick_of k s x }
 {
     let r = times::<SMALL>(k.r_plus_g, s.state_1);
@@ -165,28 +165,6 @@ fn tick<const SMALL: bool>(k: Mode, s: ResonatorSvf, x: f32) -> Ticked
         state_2: g_bp + lp,
     };
     Ticked { svf, bp, lp }
-}
-
-// `tick`, told when the program runs whether the mode is small.
-pub fn tick_at(small: bool, k: Mode, s: ResonatorSvf, x: f32) -> Ticked
-    ensures { result ≡ tick_of k s x }
-{
-    if small {
-        tick::<true>(k, s, x)
-    } else {
-        tick::<false>(k, s, x)
-    }
-}
-
-// A gain times a sample, told the same.
-pub fn scale(small: bool, gain: f32, sample: f32) -> f32
-    ensures { result ≡ gain ⊗ sample }
-{
-    if small {
-        times::<true>(gain, sample)
-    } else {
-        times::<false>(gain, sample)
-    }
 }
 
 // ---- the modes of a block

@@ -1,5 +1,4 @@
 -- `modal_voice::filter_frames` meets its contract: the filter and its mix, each by the law of loops over frames.
-use mathlib.Core.Bool.{false}
 use native.Mathlib.Omega.{arith}
 use borrow.Author.Rules.{rules}
 use Rattle.modal_voice.proofs.OneLoop.{passing_begin, passing_turn, passing_end}
@@ -8,15 +7,15 @@ use Rattle.modal_voice.proofs.modal_voice.filter_frames.Goals as goal
 pub loop-i-init : goal.loop-i-init
 loop-i-init c =
     let a = c.args in
-    passing_begin (record { mode = a.k; svf = a.s; around = false }) a.temp.now a.temp_2.now a.aux.now c.requires.0 c.requires.1 (search rules) c.first-passed.ensures.0 c.first-passed.ensures.1
+    passing_begin (record { mode = a.k; svf = a.s }) a.temp.now a.temp_2.now a.aux.now c.requires.0 c.requires.1 (search rules) c.first-passed.ensures.0 c.first-passed.ensures.1
 
 pub loop-i-preserved : goal.loop-i-preserved
 loop-i-preserved c =
     let a = c.args in
     let q = c.on-passed.ensures in
-    passing_turn (record { mode = a.k; svf = a.s; around = false }) a.temp.now a.temp_2.now a.aux.now c.loop-i.invariant (omega arith) q.0 q.1
+    passing_turn (record { mode = a.k; svf = a.s }) a.temp.now a.temp_2.now a.aux.now c.loop-i.invariant (omega arith) q.0 q.1
 
 pub returns : goal.returns
 returns c =
     let a = c.args in
-    passing_end (record { mode = a.k; svf = a.s; around = false }) a.temp.now a.temp_2.now a.aux.now c.loop-i.invariant (omega arith)
+    passing_end (record { mode = a.k; svf = a.s }) a.temp.now a.temp_2.now a.aux.now c.loop-i.invariant (omega arith)

@@ -1,8 +1,8 @@
 -- `modal_voice::frames_in_one` meets its contract: the loops that it joins, each by the law of loops over frames.
 use lib.ListN.{length}
-use Rattle.modal_voice.proofs.OneLoop.{low_pass_at, Underway}
+use Rattle.modal_voice.proofs.OneLoop.{Underway}
 use Rattle.modal_voice.proofs.modal_voice.frames_in_one.Given as goal
 
 abbrev pub invariant-loop-i : goal.invariant-loop-i
 invariant-loop-i g l =
-    Underway (low_pass_at g.row.AROUND l.fn.k l.fn.s) l.m l.initial.states l.temp l.initial.temp_2 l.initial.out l.initial.aux (length l.temp) l.i l.temp_2 l.out l.aux l.states l.ahead
+    Underway (record { mode = l.fn.k; svf = l.fn.s }) l.m l.initial.states l.temp l.initial.temp_2 l.initial.out l.initial.aux (length l.temp) l.i l.temp_2 l.out l.aux l.states l.ahead
