@@ -23,7 +23,7 @@ pub fn cut(x: f32) -> u32
     digits >> (150 - bits / 8388608)
 }
 
-// `x as usize`, and 0 from 2^64 on.
+// `x as usize`, and 0 from 2^64 on: a cast is proved only where it loses nothing.
 #[tactic(auto, using(crate::proofs::Wholes::truncates), unfolding(crate::specs::Floats::whole_part))]
 pub fn whole_part(x: f32) -> usize
     ensures { result ≡ whole_part x }
@@ -88,6 +88,7 @@ pub fn split_near(x: f32, guess: usize) -> Parts
     split(x)
 }
 
+// The fraction that goes with `whole_part`, which is not `f32::fract`: of a negative x it is x, and 0 from 2^64 on.
 #[tactic(auto, unfolding(crate::specs::Floats::fraction_of))]
 pub fn fraction(x: f32) -> f32
     ensures { result ≡ fraction_of x }
@@ -103,7 +104,7 @@ pub fn min(x: f32, y: f32) -> f32
     if x < y || y.is_nan() { x } else { y }
 }
 
-// f32::clamp: a NaN stays a NaN. std's asks for ends in order.
+// f32::clamp: a NaN gives a NaN. std's asks for ends in order, and a caller may hand any.
 #[tactic(auto, unfolding(crate::specs::Floats::clamp_f))]
 pub fn clamp(x: f32, lo: f32, hi: f32) -> f32
     ensures { result ≡ clamp_f x lo hi }
@@ -112,7 +113,7 @@ pub fn clamp(x: f32, lo: f32, hi: f32) -> f32
     if y > hi { hi } else { y }
 }
 
-// f32::abs
+// f32::abs, by the cases of a float; std's clause says it by a sign.
 #[tactic(auto, using(crate::proofs::Signs::without_sign))]
 pub fn abs(x: f32) -> f32
     ensures { result ≡ abs_f x }

@@ -4,7 +4,7 @@ ghost use Rattle.std.specs.Float.Ieee.Nearest.{closest};
 ghost use Rattle.ground.specs.Draw.{next};
 ghost use Rattle.ground.specs.Random.{word_float, float_of, noise_of};
 
-// u32::wrapping_mul: a rule of the project has a helper of its own here.
+// u32::wrapping_mul: 01 'The shape of some places' asks for a multiply of our own beside std's `wrapping_add`.
 pub fn wrapping_mul(a: u32, b: u32) -> u32
     ensures { result ≡ (a * b) % 2 ^ 32 }
 {
@@ -50,7 +50,7 @@ fn digits_of(word: u32, zeros: u32) -> u32
     ((shifted + 127 + shifted / 256 % 2) / 256) as u32
 }
 
-// `word as f32`: the nearest f32, a tie to the even one, from the leading zeros by a rule of the project.
+// `word as f32`: the nearest f32, a tie to the even one. A cast that rounds is not proved: 01 'Drawing noise' has the rounding worked out from the leading zeros.
 #[tactic(auto, using(crate::proofs::Words::wide, crate::proofs::Words::digits_exact, crate::proofs::Rounding::word_float_lem))]
 pub fn word_to_f32(word: u32) -> f32
     ensures { result ≡ word_float word }

@@ -37,8 +37,7 @@ impl Filter for Svf {
     ghost stays = { svf_stays };
 
     fn step(self, x: f32) -> (Svf, f32) {
-        let o = self.process(x);
-        (o.svf, o.out)
+        self.process(x)
     }
 
     fn stands(self, after: Svf) -> bool {

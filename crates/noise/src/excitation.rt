@@ -3,7 +3,7 @@ ghost use Rattle.std.specs.Prelude.{◌≡◌};
 ghost use Rattle.ground.specs.Draw.{run, Ran};
 ghost use Rattle.noise.specs.Excitation.{raised, dust_frequency, dusted, added};
 
-// What a render is given beside its buffers.
+// What a render is given beside its buffers. `sustain` and `trigger` are knobs of two positions: neither says that a value is absent.
 #[derive(Clone, Copy)]
 pub struct Knobs {
     pub sustain: bool,
@@ -53,9 +53,9 @@ pub fn fill_dust(f: f32, gain: f32, accent: f32, temp: &mut [f32], word: u32) ->
 {
     let mut w = word;
     for sample in temp.iter_mut() {
-        let d = crate::dust::dust(f, w);
-        *sample = d.value * gain * accent;
-        w = d.word;
+        let (u, after) = crate::dust::dust(f, w);
+        *sample = u * gain * accent;
+        w = after;
     }
     w
 }

@@ -11,9 +11,10 @@ use noise::ahead::Passed;
 use noise::buffers::Buffers;
 use noise::excitation::{Counts, Knobs, Rendered};
 use utils::filter::{FrequencyApproximation, Svf};
-use waveguide::string::{Block, Live, String};
+use waveguide::string::{Block, Played, String, Underway};
 
-// A voice. Its lines are lent: the string line of 1,024 numbers and the stretch line of 256 behind it.
+// A voice. Its lines are lent: the string line of 1,024 numbers and the stretch line of 256 behind it. That its string's places lie in them (`Good`) is asked
+// by each call that sounds it: a caller's bank may hold any places.
 #[derive(Clone, Copy)]
 pub struct StringVoice {
     pub excitation_filter: Svf,
@@ -67,7 +68,7 @@ fn fill_excitation(k: Knobs, left: usize, temp: &mut [f32], word: u32) -> u32
     }
 }
 
-// What is left of the noise after a block of n.
+// What is left of the noise after a block of n. The knob `sustain` comes with the block: neither this nor `counts_of` can be told it before the program runs.
 fn noise_left(sustain: bool, left: usize, n: usize) -> usize
     ensures { result ≡ cond sustain left (left - min left n) }
 {
@@ -87,9 +88,16 @@ fn counts_of(sustain: bool, left: usize, n: usize) -> Counts
 
 // Both halves' loops as one, by the frame's index, since each frame stands in four buffers. The excitation filter is a frame ahead of the string, so that
 // neither waits for the other.
-fn sound_frames(lines: &mut [f32], v: Live, block: Block, f: Svf, b: &mut Buffers) -> Strung
-    requires { Good (v.string, lines.old) × (length b.old.out.now ≤ 2 ^ 24) × IsAlike b.old }
-    ensures all { run (frames_of block.shape block.params f (v.string, lines.old) b.old.temp.now b.old.temp_2.now b.old.out.now b.old.aux.now) v.word ≡ record {
+fn sound_frames(
+    lines: &mut [f32],
+    s: String,
+    word: u32,
+    block: Block,
+    f: Svf,
+    b: &mut Buffers,
+) -> Strung
+    requires { Good (s, lines.old) × (length b.old.out.now ≤ 2 ^ 24) × IsAlike b.old }
+    ensures all { run (frames_of block.shape block.params f (s, lines.old) b.old.temp.now b.old.temp_2.now b.old.out.now b.old.aux.now) word ≡ record {
       value = record {
         filter = result.filter;
         string = result.string;
@@ -108,7 +116,7 @@ fn sound_frames(lines: &mut [f32], v: Live, block: Block, f: Svf, b: &mut Buffer
     let temp_2 = &mut *b.temp_2;
     let out = &mut *b.out;
     let aux = &mut *b.aux;
-    let mut u = block.begin(v);
+    let mut u = block.begin(s, word);
     let mut ahead = Passed::first(f, temp);
     for i in 0..temp.len() {
         let x = ahead.out;
@@ -118,11 +126,17 @@ fn sound_frames(lines: &mut [f32], v: Live, block: Block, f: Svf, b: &mut Buffer
         ahead = ahead.on(temp, i);
         out[i] = waveguide::string::mix(out[i], u.string);
     }
+    let Underway {
+        string,
+        word,
+        drawn,
+        ..
+    } = u;
     Strung {
         filter: ahead.filter,
-        string: u.string,
-        word: u.word,
-        drawn: u.drawn,
+        string,
+        word,
+        drawn,
     }
 }
 
@@ -155,9 +169,10 @@ impl StringVoice {
     pub fn init(self, sample_rate_hz: f32, lines: &mut [f32]) -> StringVoice
         ensures { (result, lines.new) ≡ voice_init self sample_rate_hz lines.old }
     {
+        let string = self.string.init(sample_rate_hz, lines);
         StringVoice {
             excitation_filter: self.excitation_filter.init(),
-            string: self.string.init(sample_rate_hz, lines),
+            string,
             remaining_noise_samples: 0,
         }
     }
@@ -238,25 +253,22 @@ impl StringVoice {
         let shape = waveguide::string::non_linearity(amount_for(k.structure));
         let brightness = noise::excitation::raise(k.accent, k.brightness);
         let damping = noise::excitation::raise(k.accent, k.damping);
-        let live = Live {
-            string: self.string,
+        let Played {
+            string,
             word,
-        };
-        let s = waveguide::string::process(
-            lines, live, shape, k.f0, brightness, damping, temp_2, out,
-        );
-        let voice = StringVoice {
-            string: s.string,
-            ..self
-        };
+            drawn,
+        } = self
+            .string
+            .process(lines, word, shape, k.f0, brightness, damping, temp_2, out);
+        let voice = StringVoice { string, ..self };
         let counts = Counts {
             burst: 0,
             dust: 0,
-            dispersion: s.drawn,
+            dispersion: drawn,
         };
         Rendered {
             voice,
-            word: s.word,
+            word,
             counts,
         }
     }
@@ -293,25 +305,28 @@ impl StringVoice {
         let shape = waveguide::string::non_linearity(amount);
         let bright = noise::excitation::raise(k.accent, k.brightness);
         let damped = noise::excitation::raise(k.accent, k.damping);
-        let p = waveguide::string::prepare(struck.string, shape, k.f0, bright, damped, b.out.len());
-        let live = Live {
-            string: p.string,
-            word: excited,
-        };
+        let p = struck
+            .string
+            .prepare(shape, k.f0, bright, damped, b.out.len());
         let filter = struck.excitation_filter;
-        let s = sound_frames(lines, live, p.block, filter, b);
+        let Strung {
+            filter,
+            string,
+            word,
+            drawn,
+        } = sound_frames(lines, p.string, excited, p.block, filter, b);
         let voice = StringVoice {
-            excitation_filter: s.filter,
-            string: s.string,
+            excitation_filter: filter,
+            string,
             remaining_noise_samples: left_after,
         };
         let counts = Counts {
-            dispersion: s.drawn,
+            dispersion: drawn,
             ..e
         };
         Rendered {
             voice,
-            word: s.word,
+            word,
             counts,
         }
     }

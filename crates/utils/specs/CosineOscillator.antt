@@ -2,7 +2,6 @@
 use Rattle.std.specs.Prelude.{cond, List, replicate, Float}
 use Rattle.std.specs.Float.Ieee.{neg, lt}
 use Rattle.utils.specs.declared.cosine_oscillator.CosineOscillator.{CosineOscillator}
-use Rattle.utils.specs.declared.cosine_oscillator.CosineOut.{CosineOut}
 use Rattle.ground.specs.F32.{◌⊕◌, ◌⊖◌, ◌⊗◌, c0, c0·25, c0·5, c1, c2, c16}
 use Rattle.ground.specs.Frames.{scan}
 
@@ -33,21 +32,20 @@ unfoldable pub osc_init : Float → CosineOscillator
 osc_init frequency = started (approximate (record { y1 = c0; y0 = c0; iir_coefficient = c0; initial_amplitude = c0 }) frequency)
 
 -- next
-unfoldable pub osc_next : CosineOscillator → CosineOut
-osc_next o =
-    record {
-      oscillator = record {
-        y1 = o.y0;
-        y0 = o.iir_coefficient ⊗ o.y0 ⊖ o.y1;
-        iir_coefficient = o.iir_coefficient;
-        initial_amplitude = o.initial_amplitude;
-      };
-      out = o.y0 ⊕ c0·5;
-    }
+unfoldable pub osc_next : CosineOscillator → CosineOscillator × Float
+osc_next o = (
+  record {
+    y1 = o.y0;
+    y0 = o.iir_coefficient ⊗ o.y0 ⊖ o.y1;
+    iir_coefficient = o.iir_coefficient;
+    initial_amplitude = o.initial_amplitude;
+  },
+  o.y0 ⊕ c0·5,
+)
 
 -- Resonator::init: an amplitude a mode, 24 of them
 abbrev pub amplitude_step : CosineOscillator → Float → Float → CosineOscillator × Float
-amplitude_step o x y = let n = osc_next o in (n.oscillator, n.out ⊗ c0·25)
+amplitude_step o x y = let n = osc_next o in (n.0, n.1 ⊗ c0·25)
 
 unfoldable pub amplitudes_of : Float → List Float
 amplitudes_of position = (scan amplitude_step (osc_init position) (replicate 24 c0) (replicate 24 c0)).1

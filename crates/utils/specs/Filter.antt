@@ -6,7 +6,6 @@ use Rattle.utils.specs.declared.filter.FrequencyApproximation.{FrequencyApproxim
 use Rattle.utils.specs.declared.filter.FrequencyApproximation.TheVariants.{Fast, Dirty}
 use Rattle.utils.specs.declared.filter.DcBlocker.{DcBlocker}
 use Rattle.utils.specs.declared.filter.Svf.{Svf}
-use Rattle.utils.specs.declared.filter.SvfOut.{SvfOut}
 use Rattle.ground.specs.F32.{◌⊕◌, ◌⊖◌, ◌⊗◌, ◌⊘◌, c0, c0·01, c1, c100}
 use Rattle.ground.specs.Frames.{scan}
 use Rattle.ground.specs.Floats.{same_float}
@@ -84,15 +83,12 @@ unfoldable pub svf_init : Svf → Svf
 svf_init s = svf_reset (svf_setFQ s c0·01 c100 Dirty)
 
 -- process, at FilterMode::LowPass
-unfoldable pub svf_of : Svf → Float → SvfOut
+unfoldable pub svf_of : Svf → Float → Svf × Float
 svf_of s x =
     let hp = (x ⊖ s.r ⊗ s.state_1 ⊖ s.g ⊗ s.state_1 ⊖ s.state_2) ⊗ s.h in
     let bp = s.g ⊗ hp ⊕ s.state_1 in
     let lp = s.g ⊗ bp ⊕ s.state_2 in
-    record {
-      svf = record { g = s.g; r = s.r; h = s.h; state_1 = s.g ⊗ hp ⊕ bp; state_2 = s.g ⊗ bp ⊕ lp };
-      out = lp;
-    }
+    (record { g = s.g; r = s.r; h = s.h; state_1 = s.g ⊗ hp ⊕ bp; state_2 = s.g ⊗ bp ⊕ lp }, lp)
 
 -- whether the memory of two filters is the same
 abbrev pub has_same_memory : Svf → Svf → Bool
@@ -100,7 +96,7 @@ has_same_memory s t = same_float s.state_1 t.state_1 && same_float s.state_2 t.s
 
 -- process_buffer, at FilterMode::LowPass: the frames of the zipped buffers
 abbrev pub svf_step : Svf → Float → Float → Svf × Float
-svf_step s x y = ((svf_of s x).svf, (svf_of s x).out)
+svf_step s x y = svf_of s x
 
 abbrev pub svf_buffer : Svf → List Float → List Float → Svf × List Float
 svf_buffer = scan svf_step

@@ -10,13 +10,6 @@ pub struct CosineOscillator {
     pub initial_amplitude: f32,
 }
 
-// The oscillator after a step, and what the step gives.
-#[derive(Clone, Copy)]
-pub struct CosineOut {
-    pub oscillator: CosineOscillator,
-    pub out: f32,
-}
-
 impl CosineOscillator {
     // The frequency's distance from a quarter, and the sign of the coefficient.
     #[tactic(auto, unfolding(crate::specs::CosineOscillator::with_coefficient))]
@@ -70,8 +63,9 @@ impl CosineOscillator {
         new.init_approximate(frequency).start()
     }
 
+    // The oscillator after a step, and what the step gives.
     #[tactic(auto, unfolding(crate::specs::CosineOscillator::osc_next))]
-    pub fn next(self) -> CosineOut
+    pub fn next(self) -> (CosineOscillator, f32)
         ensures { result ≡ osc_next self }
     {
         let oscillator = CosineOscillator {
@@ -79,10 +73,7 @@ impl CosineOscillator {
             y0: self.iir_coefficient * self.y0 - self.y1,
             ..self
         };
-        CosineOut {
-            oscillator,
-            out: self.y0 + 0.5,
-        }
+        (oscillator, self.y0 + 0.5)
     }
 }
 
@@ -93,9 +84,9 @@ pub fn amplitudes(position: f32) -> [f32; 24]
     let mut mode_amplitude = [0.0; 24];
     let mut oscillator = CosineOscillator::init(position);
     for amplitude in mode_amplitude.iter_mut() {
-        let o = oscillator.next();
-        *amplitude = o.out * 0.25;
-        oscillator = o.oscillator;
+        let (after, out) = oscillator.next();
+        *amplitude = out * 0.25;
+        oscillator = after;
     }
     mode_amplitude
 }

@@ -1,9 +1,9 @@
 // Delay line: a lent slice, whose length is MAX_DELAY, and the place that is written next.
-// The host lends the slice for a call and keeps the place, so the two are parameters and no struct.
+// The host lends the slice for a call and keeps the place, so the two are parameters and no struct, and each call asks that the place lies in the slice.
 ghost use Rattle.std.specs.Prelude.{◌≡◌, ◌<◌, ◌%◌, length};
 ghost use Rattle.utils.specs.DelayLine.{cleared, tap, written, cubic_of, allpass_of, read_frac, read_hermite};
 
-// What the all-pass gives, and the next place.
+// What the all-pass gives, and the next place: by name, since the order alone would tell the two numbers of a pair apart.
 #[derive(Clone, Copy)]
 pub struct AllpassOut {
     pub out: f32,

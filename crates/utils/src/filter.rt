@@ -88,13 +88,6 @@ pub struct Svf {
     pub state_2: f32,
 }
 
-// The filter after a sample, and the sample that it gives.
-#[derive(Clone, Copy)]
-pub struct SvfOut {
-    pub svf: Svf,
-    pub out: f32,
-}
-
 impl Svf {
     #[tactic(auto, unfolding(crate::specs::Filter::svf_new))]
     pub fn new() -> Svf
@@ -142,9 +135,9 @@ impl Svf {
         }
     }
 
-    // `process` at the low pass.
+    // `process` at the low pass: the filter after a sample, and the sample that it gives.
     #[tactic(auto, unfolding(crate::specs::Filter::svf_of))]
-    pub fn process(self, in_: f32) -> SvfOut
+    pub fn process(self, in_: f32) -> (Svf, f32)
         ensures { result ≡ svf_of self in_ }
     {
         let hp = (in_ - self.r * self.state_1 - self.g * self.state_1 - self.state_2) * self.h;
@@ -155,7 +148,7 @@ impl Svf {
             state_2: self.g * bp + lp,
             ..self
         };
-        SvfOut { svf, out: lp }
+        (svf, lp)
     }
 
     // `process_buffer` at the low pass: the frames that both buffers have.
@@ -166,9 +159,9 @@ impl Svf {
         let mut svf = self;
         // by index: a proof knows nothing of what a zip with `iter_mut` wrote
         for i in 0..n {
-            let o = svf.process(in_[i]);
-            out[i] = o.out;
-            svf = o.svf;
+            let (after, given) = svf.process(in_[i]);
+            out[i] = given;
+            svf = after;
         }
         svf
     }

@@ -15,7 +15,7 @@ use Rattle.ground.specs.Part.{part, put}
 use Rattle.ground.specs.Floats.{whole_part, clamp_f}
 use Rattle.utils.specs.Filter.{svf_of, dc_of}
 use Rattle.utils.specs.DelayLine.{written, allpass_of, read_frac}
-use Rattle.utils.specs.declared.filter.SvfOut.{SvfOut}
+use Rattle.utils.specs.declared.filter.Svf.{Svf}
 use Rattle.utils.specs.declared.filter.DcBlocker.{DcBlocker}
 use Rattle.ground.proofs.Draw.{run_then, Always, always_run, Draws, draws_always, draws_map, draws_then, counted_then}
 use Rattle.ground.proofs.Frames.{Any, after, drawn, drawn_more, drawn_few, frames_draws, Frames, frames_end}
@@ -25,31 +25,30 @@ use Rattle.waveguide.specs.declared.string.StringNonLinearity.TheVariants.{Curve
 use Rattle.waveguide.specs.declared.string.Params.{Params}
 use Rattle.waveguide.specs.declared.string.String.{String}
 use Rattle.waveguide.specs.declared.string.Heard.{Heard}
-use Rattle.waveguide.specs.declared.string.Live.{Live}
 use Rattle.waveguide.specs.declared.string.Underway.{Underway}
 use Rattle.waveguide.specs.String.{bent, plain, allpassed, main_of, stretched, heard, bridged, step_of, at_phase, words_of, words_at, moved, frame_of, guess_of, guess_after, begun, Ahead, Good}
 
 module _ (shape : StringNonLinearity) (p : Params) (x : Float) (t : String) (word : ℕ) (lines : List Float) where
-  pub stepped : {delay noise : Float} {word' : ℕ} {h : Heard} {lines' : List Float} {held : Float} {dc : DcBlocker} {o : SvfOut} {next : ℕ} {line' : List Float} {bridge : Float}
+  pub stepped : {delay noise : Float} {word' : ℕ} {h : Heard} {lines' : List Float} {held : Float} {dc : DcBlocker} {o : Svf × Float} {next : ℕ} {line' : List Float} {bridge : Float}
       → run (bent shape p (t.delay ⊕ p.increment) t.dispersion_noise t.curved_bridge) word ≡ record { value = (delay, noise); word = word' }
       → ◌≡◌ {A = Heard × List Float} (h, lines') (heard shape p t delay lines)
       → held ≡ clamp_f x (neg c20) c20
       → dc ≡ dc_of t.dc_blocker (h.s ⊕ held)
       → o ≡ svf_of t.iir_damping_filter dc.y
-      → ◌≡◌ {A = ℕ × List Float} (next, line') (written (take 1024 lines') t.string o.out)
+      → ◌≡◌ {A = ℕ × List Float} (next, line') (written (take 1024 lines') t.string o.1)
       → bridge ≡ bridged shape h.s t.curved_bridge
       → run (step_of shape p x (t, lines)) word ≡ record {
         value = (
           record {
             string = next;
             stretch = h.stretch;
-            iir_damping_filter = o.svf;
+            iir_damping_filter = o.0;
             dc_blocker = dc;
             delay = t.delay ⊕ p.increment;
             dispersion_noise = noise;
             curved_bridge = bridge;
             src_phase = t.src_phase;
-            out_sample_0 = o.out;
+            out_sample_0 = o.1;
             out_sample_1 = t.out_sample_0;
             sample_rate_hz = t.sample_rate_hz;
           },
@@ -69,7 +68,7 @@ pub guess_on : (shape : StringNonLinearity) (p : Params) (v : Underway) {delay n
 guess_on shape p v e g = g ∙ ap (λ (r : Ran (Float × Float)). guess_of shape r.value.0) (sym e)
 
 -- ---- how a loop begins
-module _ (p : Params) (v : Live) (u : Underway) (e : u ≡ begun p v) where
+module _ (p : Params) (s : String) (word : ℕ) (u : Underway) (e : u ≡ begun p s word) where
   pub begun_ahead : Ahead p u
   unfolding begun
   begun_ahead = rw e
@@ -78,11 +77,11 @@ module _ (p : Params) (v : Live) (u : Underway) (e : u ≡ begun p v) where
   unfolding begun
   begun_drawn = rw e
 
-  pub begun_good : (lines : List Float) → Good (v.string, lines) → Good (u.string, lines)
+  pub begun_good : (lines : List Float) → Good (s, lines) → Good (u.string, lines)
   unfolding begun
   begun_good lines g = rw e g
 
-  pub begun_run : {A : Type 0} (f : String → Draw A) {r : Ran A} → run (f u.string) u.word ≡ r → run (f v.string) v.word ≡ r
+  pub begun_run : {A : Type 0} (f : String → Draw A) {r : Ran A} → run (f u.string) u.word ≡ r → run (f s) word ≡ r
   unfolding begun
   begun_run f h = ap (λ (u : Underway). run (f u.string) u.word) (sym e) ∙ h
 

@@ -22,7 +22,6 @@ use Rattle.waveguide.specs.declared.string.Damping.{Damping}
 use Rattle.waveguide.specs.declared.string.Params.{Params}
 use Rattle.waveguide.specs.declared.string.Heard.{Heard}
 use Rattle.waveguide.specs.declared.string.Prepared.{Prepared}
-use Rattle.waveguide.specs.declared.string.Live.{Live}
 use Rattle.waveguide.specs.declared.string.Underway.{Underway}
 
 -- ---- String::new, init and reset: the state; the lines are 1,280 zeros after each
@@ -204,13 +203,13 @@ abbrev pub guess_at : StringNonLinearity → Params → Underway → ℕ
 guess_at shape p v = cond (lt c1 (v.string.src_phase ⊕ p.src_ratio)) (guess_after shape p v) v.guess
 
 -- a string as its loop begins
-unfoldable pub begun : Params → Live → Underway
-begun p v =
+unfoldable pub begun : Params → String → ℕ → Underway
+begun p s word =
     record {
-      string = v.string;
-      word = v.word;
-      next_noise = noise_after p v.string.dispersion_noise v.word;
-      guess = whole_part v.string.delay;
+      string = s;
+      word = word;
+      next_noise = noise_after p s.dispersion_noise word;
+      guess = whole_part s.delay;
       drawn = 0;
     }
 
@@ -254,18 +253,18 @@ step_of shape p x s =
     let h = heard shape p t b.0 s.1 in
     let dc = dc_of t.dc_blocker (h.0.s ⊕ clamp_f x (neg c20) c20) in
     let o = svf_of t.iir_damping_filter dc.y in
-    let l = within 0 1024 (λ line. written line t.string o.out) h.1 in
+    let l = within 0 1024 (λ line. written line t.string o.1) h.1 in
     ret (
       record {
         string = l.0;
         stretch = h.0.stretch;
-        iir_damping_filter = o.svf;
+        iir_damping_filter = o.0;
         dc_blocker = dc;
         delay = delay;
         dispersion_noise = b.1;
         curved_bridge = bridged shape h.0.s t.curved_bridge;
         src_phase = t.src_phase;
-        out_sample_0 = o.out;
+        out_sample_0 = o.1;
         out_sample_1 = t.out_sample_0;
         sample_rate_hz = t.sample_rate_hz;
       },

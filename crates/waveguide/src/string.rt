@@ -6,7 +6,7 @@ ghost use Rattle.waveguide.specs.String.{string_new, init_of, reset_of, non_line
 
 use utils::filter::{DcBlocker, FrequencyApproximation, Svf};
 
-// The non-linearity, each with its amount.
+// The non-linearity, each of the two with its amount: neither stands for an absence or a refusal.
 #[derive(Clone, Copy)]
 pub enum StringNonLinearity {
     CurvedBridge(f32),
@@ -65,13 +65,6 @@ pub struct Prepared {
     pub block: Block,
 }
 
-// A string and the generator's word.
-#[derive(Clone, Copy)]
-pub struct Live {
-    pub string: String,
-    pub word: u32,
-}
-
 // A string after a block, the generator's word, and how many words the block drew.
 #[derive(Clone, Copy)]
 pub struct Played {
@@ -125,8 +118,7 @@ impl StringNonLinearity {
         ensures { result ≡ amount_of self }
     {
         match self {
-            StringNonLinearity::CurvedBridge(a) => a,
-            StringNonLinearity::Dispersion(a) => a,
+            StringNonLinearity::CurvedBridge(a) | StringNonLinearity::Dispersion(a) => a,
         }
     }
 
@@ -343,6 +335,48 @@ impl String {
             ..self
         }
     }
+
+    // A string tuned for a block of n frames, and what the block's knobs come to.
+    #[tactic(auto, unfolding(crate::specs::String::prepared_of))]
+    pub fn prepare(
+        self,
+        shape: StringNonLinearity,
+        f0: f32,
+        brightness: f32,
+        damping: f32,
+        n: usize,
+    ) -> Prepared
+        requires { n ≤ 2 ^ 24 }
+        ensures { result ≡ prepared_of self shape f0 brightness damping n }
+    {
+        let d = damping_of(f0, brightness, damping);
+        let params = params_of(self, f0, shape.amount(), d, n);
+        let string = self.tune(f0, d);
+        let block = Block { shape, params };
+        Prepared { string, block }
+    }
+
+    // A block of the string. The knobs come one by one, as in the Rust: two of them are raised, and a struct of the three would be made for this call alone.
+    // At most 2^24 frames, which an f32 counts exactly: a buffer that a caller lends has no type that says so.
+    #[tactic(auto, using(crate::proofs::Blocks::prepared_good), unfolding(crate::specs::String::strung, crate::specs::String::prepared_of))]
+    pub fn process(
+        self,
+        lines: &mut [f32],
+        word: u32,
+        shape: StringNonLinearity,
+        f0: f32,
+        brightness: f32,
+        damping: f32,
+        in_: &[f32],
+        out: &mut [f32],
+    ) -> Played
+        requires { Good (self, lines.old) × (length out.old ≤ 2 ^ 24) }
+        ensures { run (counted (strung shape f0 brightness damping (self, lines.old) in_.now out.old)) word
+            ≡ record { value = (((result.string, lines.new), out.new), result.drawn); word = result.word } }
+    {
+        let b = self.prepare(shape, f0, brightness, damping, out.len());
+        b.block.run_frames(lines, b.string, word, in_, out)
+    }
 }
 
 impl Block {
@@ -434,35 +468,41 @@ impl Block {
     {
         let t = v.string;
         let delay = t.delay + self.params.increment;
-        let b = self.bend(
+        let Bent {
+            delay: bent,
+            dispersion_noise,
+            word,
+            next_noise,
+            guess,
+        } = self.bend(
             delay,
             t.dispersion_noise,
             v.next_noise,
             t.curved_bridge,
             v.word,
         );
-        let h = self.hear(lines, t, b.delay, v.guess);
-        let driven = h.s + ground::floats::clamp(in_sample, -20.0, 20.0);
+        let Heard { s, stretch } = self.hear(lines, t, bent, v.guess);
+        let driven = s + ground::floats::clamp(in_sample, -20.0, 20.0);
         let dc_blocker = t.dc_blocker.process_sample(driven);
-        let o = t.iir_damping_filter.process(dc_blocker.y);
-        let next = utils::delay_line::write(&mut lines[0..1024], t.string, o.out);
+        let (iir_damping_filter, sample) = t.iir_damping_filter.process(dc_blocker.y);
+        let next = utils::delay_line::write(&mut lines[0..1024], t.string, sample);
         let string = String {
             string: next,
-            stretch: h.stretch,
-            iir_damping_filter: o.svf,
+            stretch,
+            iir_damping_filter,
             dc_blocker,
             delay,
-            dispersion_noise: b.dispersion_noise,
-            curved_bridge: self.shape.curve(h.s, t.curved_bridge),
-            out_sample_0: o.out,
+            dispersion_noise,
+            curved_bridge: self.shape.curve(s, t.curved_bridge),
+            out_sample_0: sample,
             out_sample_1: t.out_sample_0,
             ..t
         };
         Underway {
             string,
-            word: b.word,
-            next_noise: b.next_noise,
-            guess: b.guess,
+            word,
+            next_noise,
+            guess,
             drawn: v.drawn + self.shape.words(),
         }
     }
@@ -485,78 +525,46 @@ impl Block {
 
     // A string as its loop begins.
     #[tactic(auto, unfolding(crate::specs::String::begun))]
-    pub fn begin(self, v: Live) -> Underway
-        ensures { result ≡ begun self.params v }
+    pub fn begin(self, string: String, word: u32) -> Underway
+        ensures { result ≡ begun self.params string word }
     {
-        let string = v.string;
         Underway {
             string,
-            word: v.word,
-            next_noise: self.noise_after(string.dispersion_noise, v.word),
+            word,
+            next_noise: self.noise_after(string.dispersion_noise, word),
             guess: ground::floats::whole_part(string.delay),
             drawn: 0,
         }
     }
 
-    // The loop of `process`, by the frame's index: of a slice that is written through an iterator a proof knows the length alone.
-    fn run_frames(self, lines: &mut [f32], v: Live, in_: &[f32], out: &mut [f32]) -> Played
-        requires { Good (v.string, lines.old) × (length out.old ≤ 2 ^ 24) }
-        ensures { run (counted (frames (frame_of self.shape self.params) (v.string, lines.old) in_.now out.old)) v.word
+    // The loop of `process`, by the frame's index: of what a zip with `iter_mut` wrote a proof knows the length alone.
+    fn run_frames(
+        self,
+        lines: &mut [f32],
+        s: String,
+        word: u32,
+        in_: &[f32],
+        out: &mut [f32],
+    ) -> Played
+        requires { Good (s, lines.old) × (length out.old ≤ 2 ^ 24) }
+        ensures { run (counted (frames (frame_of self.shape self.params) (s, lines.old) in_.now out.old)) word
             ≡ record { value = (((result.string, lines.new), out.new), result.drawn); word = result.word } }
     {
-        let mut u = self.begin(v);
+        let mut u = self.begin(s, word);
         for i in 0..in_.len().min(out.len()) {
             u = self.advance(lines, u, in_[i]);
             out[i] = mix(out[i], u.string);
         }
+        let Underway {
+            string,
+            word,
+            drawn,
+            ..
+        } = u;
         Played {
-            string: u.string,
-            word: u.word,
-            drawn: u.drawn,
+            string,
+            word,
+            drawn,
         }
     }
-}
-
-// A string tuned for a block of n frames, and what the block's knobs come to.
-#[tactic(auto, unfolding(crate::specs::String::prepared_of))]
-pub fn prepare(
-    s: String,
-    shape: StringNonLinearity,
-    f0: f32,
-    brightness: f32,
-    damping: f32,
-    n: usize,
-) -> Prepared
-    requires { n ≤ 2 ^ 24 }
-    ensures { result ≡ prepared_of s shape f0 brightness damping n }
-{
-    let d = damping_of(f0, brightness, damping);
-    let params = params_of(s, f0, shape.amount(), d, n);
-    let string = s.tune(f0, d);
-    let block = Block { shape, params };
-    Prepared { string, block }
-}
-
-// A block of the string. The knobs come one by one, as in the Rust.
-#[tactic(auto, using(crate::proofs::Blocks::prepared_good), unfolding(crate::specs::String::strung, crate::specs::String::prepared_of))]
-pub fn process(
-    lines: &mut [f32],
-    v: Live,
-    shape: StringNonLinearity,
-    f0: f32,
-    brightness: f32,
-    damping: f32,
-    in_: &[f32],
-    out: &mut [f32],
-) -> Played
-    requires { Good (v.string, lines.old) × (length out.old ≤ 2 ^ 24) }
-    ensures { run (counted (strung shape f0 brightness damping (v.string, lines.old) in_.now out.old)) v.word
-        ≡ record { value = (((result.string, lines.new), out.new), result.drawn); word = result.word } }
-{
-    let b = prepare(v.string, shape, f0, brightness, damping, out.len());
-    let live = Live {
-        string: b.string,
-        word: v.word,
-    };
-    b.block.run_frames(lines, live, in_, out)
 }

@@ -8,9 +8,9 @@ pub fn cosine_oscillator(frequency: u32, k: u32) -> [u32; 7] {
     let mut oscillator = CosineOscillator::init(float_of(frequency));
     let mut last = 0;
     for _ in 0..k % 64 {
-        let o = oscillator.next();
-        last = pattern_of(o.out);
-        oscillator = o.oscillator;
+        let (after, out) = oscillator.next();
+        last = pattern_of(out);
+        oscillator = after;
     }
     outputs([
         pattern_of(oscillator.y1),

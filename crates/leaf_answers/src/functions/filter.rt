@@ -60,9 +60,9 @@ fn after_samples(begun: Svf, seed: u32, n: u32) -> (Svf, u32) {
     let mut w = seed;
     for _ in 0..n {
         w = get_word(w);
-        let o = svf.process(draws::sample(seed, w));
-        digest = digest_with(digest, pattern_of(o.out));
-        svf = o.svf;
+        let (after, out) = svf.process(draws::sample(seed, w));
+        digest = digest_with(digest, pattern_of(out));
+        svf = after;
     }
     (svf, digest)
 }

@@ -10,6 +10,6 @@ pub fn draw(seed: u32) -> [u32; 7] {
 }
 
 pub fn dust(frequency: u32, seed: u32) -> [u32; 7] {
-    let drawn = noise::dust::dust(float_of(frequency), seed);
-    outputs([pattern_of(drawn.value), drawn.word])
+    let (value, word) = noise::dust::dust(float_of(frequency), seed);
+    outputs([pattern_of(value), word])
 }

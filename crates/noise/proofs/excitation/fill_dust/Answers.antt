@@ -14,7 +14,7 @@ loop-sample-init c = frames_begin
 pub loop-sample-preserved : goal.loop-sample-preserved
 loop-sample-preserved c =
     let l = c.loop-sample in
-    frames_turn nan nan l.invariant (omega arith) (run_then (dust_of c.args.f) _ l.w c.dust-d.ensures)
+    frames_turn nan nan l.invariant (omega arith) (run_then (dust_of c.args.f) _ l.w c.dust-u.ensures)
 
 pub returns : goal.returns
 unfolding dusted

@@ -28,8 +28,8 @@ loop-i-init c =
       lead_begin (ahead_step filter_of has_same_memory a.f a.b.now.temp.now 0 h.0) (ahead_end filter_of has_same_memory a.f a.b.now.temp.now 0 h.0),
       frames_begin,
       frames_begin,
-      begun_ahead a.block.params a.v _ e,
-      begun_drawn a.block.params a.v _ e,
+      begun_ahead a.block.params a.s a.word _ e,
+      begun_drawn a.block.params a.s a.word _ e,
       h.1,
       record {
         all = refl;
@@ -46,7 +46,7 @@ advance-u-requires c =
     let a = c.args in
     let b = c.begin-u in
     let l = c.loop-i in (
-      frames_good Good (frame_good a.block.shape a.block.params) (begun_good a.block.params a.v _ b.ensures a.lines.now c.requires.0) l.invariant.2,
+      frames_good Good (frame_good a.block.shape a.block.params) (begun_good a.block.params a.s a.word _ b.ensures a.lines.now c.requires.0) l.invariant.2,
       l.invariant.3,
       omega (arith, l.invariant.4, words_to_few a.block.shape a.block.params b.result.string.src_phase l.i, l.invariant.2.within, l.invariant.6.few, l.invariant.6.out_size),
     )
@@ -64,7 +64,7 @@ loop-i-preserved c =
     let x = lead_puts nan v.0 within in
     let q = c.on-ahead.ensures in
     let m = c.advance-u.ensures in
-    let good = begun_good a.block.params a.v _ b.ensures a.lines.now c.requires.0 in (
+    let good = begun_good a.block.params a.s a.word _ b.ensures a.lines.now c.requires.0 in (
       lead_turn nan v.0 within (ahead_step filter_of has_same_memory l.ahead.filter a.b.now.temp.now (l.i + 1) q.0) (ahead_end filter_of has_same_memory l.ahead.filter a.b.now.temp.now (l.i + 1) q.0),
       scan_turn nan nan v.1 (omega (arith, z, lt)) (ap (λ (x : Float). (tt, get_or l.aux l.i nan ⊕ x)) x),
       frames_turn nan nan v.2 (omega (arith, z, lt)) (rw (← x, c.mix.ensures) (run_then (moved a.block.shape a.block.params _ (l.u.string, l.lines)) _ l.u.word m.0)),
@@ -82,10 +82,10 @@ returns-clause-all c =
     let v = l.invariant in
     let z = v.6 in
     let xs = (svf_buffer a.f a.b.now.temp.now a.b.now.temp_2.now).1 in
-    let good = begun_good a.block.params a.v _ b.ensures a.lines.now c.requires.0 in
+    let good = begun_good a.block.params a.s a.word _ b.ensures a.lines.now c.requires.0 in
     let past : length a.b.now.temp.now ≤ l.i = omega (arith, z.all, c.loop-i-test) in
-    all_frames a.block.shape a.block.params a.f (a.v.string, a.lines.now) a.b.now.temp.now a.b.now.temp_2.now a.b.now.out.now a.b.now.aux.now a.v.word
+    all_frames a.block.shape a.block.params a.f (a.s, a.lines.now) a.b.now.temp.now a.b.now.temp_2.now a.b.now.out.now a.b.now.aux.now a.word
     (lead_end v.0 past)
     (ap (λ (q : Unit {0} × List Float). q.1) (scan_end v.1 (omega (arith, z, c.loop-i-test))))
-    (begun_run a.block.params a.v b.result b.ensures (λ (t : String). counted (frames (frame_of a.block.shape a.block.params) (t, a.lines.now) xs a.b.now.out.now))
+    (begun_run a.block.params a.s a.word b.result b.ensures (λ (t : String). counted (frames (frame_of a.block.shape a.block.params) (t, a.lines.now) xs a.b.now.out.now))
     (words_end a.block.shape a.block.params (b.result.string, a.lines.now) xs a.b.now.out.now b.result.word good l.i l.u.drawn v.2 (omega (arith, z, c.loop-i-test)) v.4))

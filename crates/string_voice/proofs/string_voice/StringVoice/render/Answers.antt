@@ -6,8 +6,8 @@ use Rattle.string_voice.proofs.Halves.{struck_good}
 use Rattle.string_voice.proofs.OneLoop.{together}
 use Rattle.string_voice.proofs.string_voice.StringVoice.render.Goals as goal
 
-pub sound_frames-s-requires : goal.sound_frames-s-requires
-sound_frames-s-requires c =
+pub sound_frames-word-requires : goal.sound_frames-word-requires
+sound_frames-word-requires c =
     let a = c.args in
     let q = c.requires.2 in
     let v = c.strike-struck in (
@@ -21,4 +21,4 @@ pub returns-clause-all : goal.returns-clause-all
 returns-clause-all c =
     let a = c.args in
     let v = c.strike-struck in
-    rw c.sound_frames-s.ensures.temp (together a.k a.self v.result a.lines.now a.b.now.temp.now a.b.now.temp_2.now a.b.now.out.now a.b.now.aux.now a.word v.ensures c.noise_left-left_after.ensures c.counts_of-e.ensures c.fill_excitation-excited.ensures c.amount_for-amount.ensures c.non_linearity-shape.ensures c.raise-bright.ensures c.raise-damped.ensures c.prepare-p.ensures c.sound_frames-s.ensures.all)
+    rw c.sound_frames-word.ensures.temp (together a.k a.self v.result a.lines.now a.b.now.temp.now a.b.now.temp_2.now a.b.now.out.now a.b.now.aux.now a.word v.ensures c.noise_left-left_after.ensures c.counts_of-e.ensures c.fill_excitation-excited.ensures c.amount_for-amount.ensures c.non_linearity-shape.ensures c.raise-bright.ensures c.raise-damped.ensures c.prepare-p.ensures c.sound_frames-word.ensures.all)

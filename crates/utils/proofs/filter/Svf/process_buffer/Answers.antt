@@ -1,8 +1,6 @@
 -- `filter::Svf::process_buffer` meets its contract, by the law of loops over frames.
-use mathlib.Core.Path.{ap}
 use native.Mathlib.Omega.{arith}
 use lib.Ieee.{nan}
-use Rattle.utils.specs.declared.filter.SvfOut.{SvfOut}
 use Rattle.ground.proofs.Frames.{frames_begin, scan_turn, scan_end}
 use Rattle.utils.proofs.filter.Svf.process_buffer.Goals as goal
 
@@ -10,7 +8,7 @@ pub loop-i-init : goal.loop-i-init
 loop-i-init c = frames_begin
 
 pub loop-i-preserved : goal.loop-i-preserved
-loop-i-preserved c = scan_turn nan nan c.loop-i.invariant (omega arith) (ap (λ (o : SvfOut). (o.svf, o.out)) c.process-o.ensures)
+loop-i-preserved c = scan_turn nan nan c.loop-i.invariant (omega arith) c.process-given.ensures
 
 pub returns : goal.returns
 returns c = scan_end c.loop-i.invariant (omega arith)
