@@ -89,7 +89,7 @@ pub fn render(
 {
     let bad = slots::table::bad(bank, lines);
     let held = bank.kind_at(slot);
-    match slots::table::check_render(bad, slot, held, k, b) {
+    match slots::table::check_lent(bad, slot, held, k, b) {
         Err(reason) => Rendered {
             bank,
             word,

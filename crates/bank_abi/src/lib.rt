@@ -140,7 +140,7 @@ pub extern "C" fn bleidhvan_render(
     };
     let bad = crate::table::bad(bytes, lines);
     let kind = crate::table::kind_at(bytes, slot);
-    match slots::table::check_render(bad, slot, kind, k, &b) {
+    match slots::table::check_lent(bad, slot, kind, k, &b) {
         Err(reason) => u32::from(reason),
         Ok(()) => {
             let r = crate::voices::render(

@@ -43,13 +43,13 @@ fn within(lo: f32, hi: f32, x: f32) -> bool
     lo <= x && x <= hi
 }
 
-// Whether the lengths of the four buffers do not differ.
+// Whether four buffers do not differ in length.
 #[tactic(auto, unfolding(crate::specs::Table::alike))]
-fn alike(b: &Buffers) -> bool
-    ensures { result ≡ alike (held b.now) }
+fn alike(temp: &[f32], temp_2: &[f32], out: &[f32], aux: &[f32]) -> bool
+    ensures { result ≡ alike (record { temp = temp.now; temp2 = temp_2.now; out = out.now; aux = aux.now }) }
 {
-    let n = b.temp.len();
-    b.temp_2.len() == n && b.out.len() == n && b.aux.len() == n
+    let n = temp.len();
+    temp_2.len() == n && out.len() == n && aux.len() == n
 }
 
 // A row of the table.
@@ -112,16 +112,35 @@ pub fn check_reset(bad: bool, slot: usize, kind: u32) -> Verdict
 }
 
 #[tactic(auto, unfolding(crate::specs::Table::verdict, crate::specs::Table::checks, crate::specs::Table::first))]
-pub fn check_render(bad: bool, slot: usize, kind: u32, k: Knobs, b: &Buffers) -> Verdict
+pub fn check_render(
+    bad: bool,
+    slot: usize,
+    kind: u32,
+    k: Knobs,
+    temp: &[f32],
+    temp_2: &[f32],
+    out: &[f32],
+    aux: &[f32],
+) -> Verdict
     ensures { result ≡ verdict bad kind (record {
       slot = slot;
-      act = render k (held b.now);
+      act = render k (record { temp = temp.now; temp2 = temp_2.now; out = out.now; aux = aux.now });
     }) }
 {
     refuse_if(bad, Reason::Memory)?;
     refuse_if(slot > 7, Reason::NoSlot)?;
     refuse_if(kind == 0, Reason::Empty)?;
-    refuse_if(!alike(b), Reason::Lengths)?;
-    refuse_if(b.temp.len() > 4096, Reason::TooLong)?;
+    refuse_if(!alike(temp, temp_2, out, aux), Reason::Lengths)?;
+    refuse_if(temp.len() > 4096, Reason::TooLong)?;
     check_knobs(k)
+}
+
+// The checks of a render into the four buffers that it is lent.
+pub fn check_lent(bad: bool, slot: usize, kind: u32, k: Knobs, b: &Buffers) -> Verdict
+    ensures { result ≡ verdict bad kind (record {
+      slot = slot;
+      act = render k (held b.now);
+    }) }
+{
+    check_render(bad, slot, kind, k, b.temp, b.temp_2, b.out, b.aux)
 }
