@@ -24,7 +24,7 @@ pub struct Rendered {
     pub answer: Answer,
 }
 
-// A slot is opened with a voice of the kind, and its lines are cleared.
+// A slot is opened with a voice of the kind, and its lines are cleared. A caller may hand any number for a kind, and the table tells.
 pub fn open(bank: Bank, lines: &mut [f32], slot: usize, kind: u32, sample_rate_hz: f32) -> Opened
     ensures { (w : ℕ) → left_of (call_def (record { bank = bank; word = w; mem = lines.old }) (record { slot = slot; act = opening kind sample_rate_hz }))
         ≡ record { answer = result.answer; after = record { bank = result.bank; word = w; mem = lines.new }; bufs = lent (opening kind sample_rate_hz) } }

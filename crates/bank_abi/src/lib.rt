@@ -37,6 +37,7 @@ pub extern "C" fn bleidhvan_fresh(bytes: &mut [u8]) -> u32
 }
 
 // A slot is opened with a voice of the kind, and its lines are cleared. An opening draws nothing: its counts are 0.
+// A caller in C may hand any number for a kind, and the table tells.
 #[unsafe(no_mangle)]
 pub extern "C" fn bleidhvan_open(
     bytes: &mut [u8],
@@ -80,7 +81,7 @@ pub extern "C" fn bleidhvan_reset(bytes: &mut [u8], lines: &mut [f32], slot: usi
         Ok(()) => {
             let voice = slot_bytes::decode::string_nth(bytes, slot);
             let after = bank::acts::reset_string(voice, lines, slot);
-            slot_bytes::encode::put_string_nth(bytes, slot, after);
+            slot_bytes::encode::put_nth(bytes, slot, after);
             0
         }
     }
@@ -88,6 +89,7 @@ pub extern "C" fn bleidhvan_reset(bytes: &mut [u8], lines: &mut [f32], slot: usi
 
 // A block of a slot's voice into the buffers; the generator's word is lent, and the counts are written.
 // `slow_subnormals` says whether the processor takes long over subnormal numbers, and changes no bit.
+// Knobs, buffers and counts go one by one, as C passes them.
 #[unsafe(no_mangle)]
 pub extern "C" fn bleidhvan_render(
     bytes: &mut [u8],

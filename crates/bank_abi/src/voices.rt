@@ -8,17 +8,15 @@ ghost use Rattle.slot_bytes.specs.Layout.{decode_bank};
 ghost use Rattle.bank_abi.specs.Crossing.{Wrote};
 
 use noise::buffers::Buffers;
-use noise::excitation::{Counts, Knobs};
+use noise::excitation::{Knobs, Rendered};
 use slots::slots::Kind;
 
-// The generator's word after a render, and the words drawn; the slot after it stands in the bytes.
-#[derive(Clone, Copy)]
-pub struct Drawn {
-    pub word: u32,
-    pub counts: Counts,
-}
+// What a render gives beside the voice, which stands in the bytes.
+pub type Drawn = Rendered<()>;
 
 // A string's render: its voice alone is decoded.
+// It and `render_modal` are no generic one: each decodes, lends and asks for something else.
+// Word and counts are named one by one, since a struct update cannot change the voice's type.
 fn render_string(
     bytes: &mut [u8],
     lines: &mut [f32],
@@ -41,14 +39,15 @@ fn render_string(
 {
     let voice = slot_bytes::decode::string_nth(bytes, slot);
     let r = bank::acts::render_string(voice, lines, word, slot, k, b);
-    slot_bytes::encode::put_string_nth(bytes, slot, r.voice);
-    Drawn {
+    slot_bytes::encode::put_nth(bytes, slot, r.voice);
+    Rendered {
+        voice: (),
         word: r.word,
         counts: r.counts,
     }
 }
 
-// A modal voice's render: its slot is decoded whole.
+// A modal voice's render: its slot is decoded whole, the string's words being few beside its own.
 fn render_modal(
     around: bool,
     bytes: &mut [u8],
@@ -70,15 +69,17 @@ fn render_modal(
     ensures same { IsSame b.new b.old }
 {
     let x = slot_bytes::decode::nth(bytes, slot);
-    let r = bank::acts::render_modal(around, x, word, slot, k, b);
-    slot_bytes::encode::put_nth(bytes, slot, r.voice);
-    Drawn {
-        word: r.word,
-        counts: r.counts,
+    let after = bank::acts::render_modal(around, x, word, slot, k, b);
+    slot_bytes::encode::put_nth(bytes, slot, after.voice);
+    Rendered {
+        voice: (),
+        word: after.word,
+        counts: after.counts,
     }
 }
 
-// A render, by the slot's kind. Each voice's is called twice, so that the compiler leaves it a function of its own, whose loop has all registers.
+// A render, by the slot's kind, which is the number in its bytes; the caller tells `around` at each call.
+// Each voice's is called twice, so that the compiler leaves it a function of its own, whose loop has all registers.
 pub fn render(
     around: bool,
     kind: u32,

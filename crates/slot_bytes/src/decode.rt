@@ -13,21 +13,13 @@ use string_voice::string_voice::StringVoice;
 use utils::filter::{DcBlocker, Svf};
 use waveguide::string::String;
 
-// A word as a place or a count.
-fn number_at(b: &[u8], k: usize) -> usize
-    requires { 4 * k + 4 ≤ length b.now }
-    ensures { result ≡ get_or (words b.now) k 0 }
-{
-    word_at(b, k) as usize
-}
-
 #[tactic(auto, unfolding(crate::specs::Layout::string_in))]
 fn string_at(b: &[u8; 393]) -> String
     ensures { result ≡ string_in (words b.now) }
 {
     String {
-        string: number_at(b, 6),
-        stretch: number_at(b, 7),
+        string: word_at(b, 6) as usize,
+        stretch: word_at(b, 7) as usize,
         iir_damping_filter: Svf::read(b, 8),
         dc_blocker: DcBlocker::read(b, 13),
         delay: f32::read(b, 16),
@@ -47,7 +39,7 @@ fn voice_at(b: &[u8; 393]) -> StringVoice
     StringVoice {
         excitation_filter: Svf::read(b, 1),
         string: string_at(b),
-        remaining_noise_samples: number_at(b, 23),
+        remaining_noise_samples: word_at(b, 23) as usize,
     }
 }
 
@@ -85,7 +77,7 @@ pub fn slots_of(bytes: &[u8]) -> &[[u8; 393]]
     slots
 }
 
-// A slot of a bank.
+// A slot of a bank. The bytes are a slice, as C hands them, so their length is asked here, in `string_nth` and in `put_nth`.
 pub fn nth(bytes: &[u8], slot: usize) -> Slot
     requires { (slot < 8) × (length bytes.now ≡ 3144) }
     ensures { result ≡ slot_at (decode_bank bytes.now) slot }

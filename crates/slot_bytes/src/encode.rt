@@ -1,5 +1,6 @@
 // A slot into its 393 bytes.
 ghost use Rattle.std.specs.Prelude.{◌≡◌, ◌<◌, length};
+ghost use Rattle.slots.specs.declared.slots.Slot.{Slot};
 ghost use Rattle.slots.specs.Slots.{slot_at, with_string};
 ghost use Rattle.slot_bytes.specs.Words.{put_words};
 ghost use Rattle.slot_bytes.specs.Layout.{decode_slot, decode_bank, StringF32, VoiceF32, ModalF32, SlotF32, string_words, voice_words, modal_words, encode_slot, with_bytes};
@@ -11,8 +12,7 @@ use slots::slots::Slot;
 use string_voice::string_voice::StringVoice;
 use waveguide::string::String;
 
-fn put_string(b: &mut [u8], s: String)
-    requires { length b.old ≡ 393 }
+fn put_string(b: &mut [u8; 393], s: String)
     ensures { (b.new ≡ put_words 6 (string_words s) b.old) × StringF32 s }
 {
     put_word(b, 6, s.string);
@@ -28,8 +28,7 @@ fn put_string(b: &mut [u8], s: String)
     s.sample_rate_hz.write(b, 22);
 }
 
-fn put_voice(b: &mut [u8], v: StringVoice)
-    requires { length b.old ≡ 393 }
+fn put_voice(b: &mut [u8; 393], v: StringVoice)
     ensures { (b.new ≡ put_words 1 (voice_words v) b.old) × VoiceF32 v }
 {
     v.excitation_filter.write(b, 1);
@@ -37,8 +36,7 @@ fn put_voice(b: &mut [u8], v: StringVoice)
     put_word(b, 23, v.remaining_noise_samples);
 }
 
-fn put_modal(b: &mut [u8], m: ModalVoice)
-    requires { length b.old ≡ 393 }
+fn put_modal(b: &mut [u8; 393], m: ModalVoice)
     ensures { (b.new ≡ put_words 24 (modal_words m) b.old) × ModalF32 m }
 {
     m.excitation_filter.write(b, 24);
@@ -46,29 +44,8 @@ fn put_modal(b: &mut [u8], m: ModalVoice)
     write_all(m.resonator.mode_filters, b, 50);
 }
 
-fn put_slot(b: &mut [u8], s: Slot)
-    requires { length b.old ≡ 393 }
-    ensures { (b.new ≡ encode_slot s) × SlotF32 s }
-{
-    put_word(b, 0, s.kind as usize);
-    put_voice(b, s.string);
-    put_modal(b, s.modal);
-    b[392] = u8::from(s.modal.held);
-}
-
-// A slot of a bank is written, and the others are kept. Its part is cut here, since a function that lent it on could say what it leaves only by a starred clause.
-pub fn put_nth(bytes: &mut [u8], slot: usize, x: Slot)
-    requires { (slot < 8) × (length bytes.old ≡ 3144) }
-    ensures { (bytes.new ≡ with_bytes slot (encode_slot x) bytes.old) × SlotF32 x }
-{
-    let from = 393 * slot;
-    let to = from + 393;
-    put_slot(&mut bytes[from..to], x);
-}
-
 // A modal voice at rest is written again, which changes bytes only where it holds a NaN.
-fn put_modal_again(b: &mut [u8])
-    requires { length b.old ≡ 393 }
+fn put_modal_again(b: &mut [u8; 393])
     ensures { (b.new ≡ put_words 24 (modal_words (decode_slot b.old).modal) b.old) × ModalF32 (decode_slot b.old).modal }
 {
     if floats_stand(b, 24, 74) {
@@ -78,25 +55,57 @@ fn put_modal_again(b: &mut [u8])
     put_modal(b, m);
 }
 
-// A string's voice into its slot, whose kind and modal voice are written again.
-fn put_string_slot(b: &mut [u8], v: StringVoice)
-    requires { length b.old ≡ 393 }
-    ensures { (b.new ≡ encode_slot (with_string (decode_slot b.old) v)) × SlotF32 (with_string (decode_slot b.old) v) }
-{
-    let kind = word_at(b, 0);
-    let held = b[392] == 1;
-    put_modal_again(b);
-    put_voice(b, v);
-    put_word(b, 0, kind as usize);
-    b[392] = u8::from(held);
+// What is put into a slot's bytes: a slot, or a string's voice alone.
+pub trait Put: Copy {
+    // The slot that the bytes hold after it, of the slot that they held.
+    ghost after: { Self → Slot → Slot };
+
+    fn put(self, b: &mut [u8; 393])
+        ensures { (b.new ≡ encode_slot (after self (decode_slot b.old))) × SlotF32 (after self (decode_slot b.old)) };
 }
 
-// A string's voice into a slot of a bank, and the other slots are kept.
-pub fn put_string_nth(bytes: &mut [u8], slot: usize, v: StringVoice)
-    requires { (slot < 8) × (length bytes.old ≡ 3144) }
-    ensures { (bytes.new ≡ with_bytes slot (encode_slot (with_string (slot_at (decode_bank bytes.old) slot) v)) bytes.old) × SlotF32 (with_string (slot_at (decode_bank bytes.old) slot) v) }
+impl Put for Slot {
+    ghost after = { λ x s. x };
+
+    fn put(self, b: &mut [u8; 393]) {
+        put_word(b, 0, self.kind as usize);
+        put_voice(b, self.string);
+        put_modal(b, self.modal);
+        b[392] = u8::from(self.modal.held);
+    }
+}
+
+impl Put for StringVoice {
+    ghost after = { λ v s. with_string s v };
+
+    // The kind and the modal voice are written again.
+    fn put(self, b: &mut [u8; 393]) {
+        let kind = word_at(b, 0);
+        let held = b[392] == 1;
+        put_modal_again(b);
+        put_voice(b, self);
+        put_word(b, 0, kind as usize);
+        b[392] = u8::from(held);
+    }
+}
+
+fn put_part<T: Put>(part: &mut [u8], x: T)
+    requires { length part.old ≡ 393 }
+    ensures { (part.new ≡ encode_slot (T.after x (decode_slot part.old))) × SlotF32 (T.after x (decode_slot part.old)) }
 {
-    let base = 393 * slot;
-    let end = base + 393;
-    put_string_slot(&mut bytes[base..end], v);
+    let Some(b) = part.as_mut_array() else {
+        unreachable!()
+    };
+    x.put(b)
+}
+
+// A slot of a bank is written, whole or its string's voice alone, and the others are kept.
+// Its part is cut here, since a function that lent it on could say what it leaves only by a starred clause.
+pub fn put_nth<T: Put>(bytes: &mut [u8], slot: usize, x: T)
+    requires { (slot < 8) × (length bytes.old ≡ 3144) }
+    ensures { (bytes.new ≡ with_bytes slot (encode_slot (T.after x (slot_at (decode_bank bytes.old) slot))) bytes.old) × SlotF32 (T.after x (slot_at (decode_bank bytes.old) slot)) }
+{
+    let from = 393 * slot;
+    let to = from + 393;
+    put_part(&mut bytes[from..to], x);
 }

@@ -4,7 +4,7 @@ ghost use Rattle.std.specs.Float.Ieee.{is_nan};
 ghost use Rattle.slot_bytes.specs.Words.{words, put_words, each};
 ghost use Rattle.slot_bytes.specs.Layout.{float_in, floats_in, has_no_nan, float_words};
 
-// The k-th word, which written again would change no byte.
+// The k-th word, which written again would change no byte: the library converts four bytes, and this finds them.
 pub fn word_at(b: &[u8], k: usize) -> u32
     requires { 4 * k + 4 ≤ length b.now }
     ensures { (result ≡ get_or (words b.now) k 0) × (put_words k (result ∷ []) b.now ≡ b.now) }
@@ -13,7 +13,7 @@ pub fn word_at(b: &[u8], k: usize) -> u32
     u32::from_le_bytes(words[k])
 }
 
-// The k-th word becomes the lowest 32 bits of v.
+// The k-th word becomes the lowest 32 bits of v: the library converts it, and this puts the four bytes in their place.
 pub fn put_word(b: &mut [u8], k: usize, v: usize)
     requires { 4 * k + 4 ≤ length b.old }
     ensures { b.new ≡ put_words k (v ∷ []) b.old }
@@ -31,6 +31,7 @@ fn float_stands(b: &[u8], k: usize) -> bool
 }
 
 // The same of each of n floats from the k-th on. All are looked at, so that the loop has no branch.
+// n is not the length of b: the floats are a part of the bytes.
 pub fn floats_stand(b: &[u8], k: usize, n: usize) -> bool
     requires { 4 * (k + n) ≤ length b.now }
     ensures { (result ≡ has_no_nan (floats_in (words b.now) k n)) × (result ≡ true → put_words k (each float_words (floats_in (words b.now) k n)) b.now ≡ b.now) }

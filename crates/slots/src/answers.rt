@@ -65,7 +65,7 @@ impl From<Reason> for u32 {
     }
 }
 
-// 01's number: 0 where the call was accepted.
+// 01's number: 0 where the call was accepted. An `Answer` is std's `Result`, which takes no `From` of this crate's own.
 pub fn number_of(answer: Answer) -> u32
     ensures { result ≡ number_of answer }
 {
@@ -75,7 +75,7 @@ pub fn number_of(answer: Answer) -> u32
     }
 }
 
-// The three counts: zeros where the call was refused.
+// The three counts: zeros where the call was refused. It is no `From` for the same reason.
 pub fn counts_of(answer: Answer) -> Counts
     ensures { result ≡ counts_of answer }
 {

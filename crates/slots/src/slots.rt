@@ -6,7 +6,6 @@ ghost use Rattle.slots.specs.Slots.{Names, no_string, empty_slot, fresh, slot_at
 use crate::answers::Reason;
 use modal_voice::modal_voice::ModalVoice;
 use string_voice::string_voice::StringVoice;
-use utils::filter::{DcBlocker, Svf};
 use waveguide::string::String;
 
 // The kind of a voice, by 01's number.
@@ -43,31 +42,17 @@ pub struct Bank {
     pub slots: [Slot; 8],
 }
 
-// A string whose every number is 0.
-#[tactic(auto, unfolding(crate::specs::Slots::no_string))]
+// A string whose every number is 0, and no `None`: a slot's memory has a string in it whatever the slot's kind.
+#[tactic(auto, unfolding(crate::specs::Slots::no_string, string_voice::specs::StringVoice::voice_new, waveguide::specs::String::string_new))]
 fn no_string() -> StringVoice
     ensures { result ≡ no_string }
 {
-    let filter = Svf::new();
-    let dc_blocker = DcBlocker::init(0.0);
+    let voice = StringVoice::new();
     let string = String {
-        string: 0,
-        stretch: 0,
-        iir_damping_filter: filter,
-        dc_blocker,
-        delay: 0.0,
-        dispersion_noise: 0.0,
-        curved_bridge: 0.0,
-        src_phase: 0.0,
-        out_sample_0: 0.0,
-        out_sample_1: 0.0,
         sample_rate_hz: 0.0,
+        ..voice.string
     };
-    StringVoice {
-        excitation_filter: filter,
-        string,
-        remaining_noise_samples: 0,
-    }
+    StringVoice { string, ..voice }
 }
 
 #[tactic(auto, unfolding(crate::specs::Slots::empty_slot))]
@@ -91,6 +76,7 @@ impl Bank {
         Bank { slots: [empty; 8] }
     }
 
+    // `slot < 8` is asked here and in the acts: a caller may hand any slot, and the table has looked at it.
     pub fn slot_at(self, slot: usize) -> Slot
         requires { slot < 8 }
         ensures { result ≡ slot_at self slot }
@@ -140,7 +126,7 @@ fn opened_modal(lines: &mut [f32]) -> Slot
     }
 }
 
-// A slot opened with a voice of the kind, its lines cleared.
+// A slot opened with a voice of the kind, its lines cleared. `kind` may be any number past 0, as its definition tells of each.
 pub fn opened(kind: u32, sample_rate_hz: f32, lines: &mut [f32]) -> Slot
     requires { 0 < kind }
     ensures { (result, lines.new) ≡ opened_on kind sample_rate_hz lines.old }

@@ -43,7 +43,7 @@ fn within(lo: f32, hi: f32, x: f32) -> bool
     lo <= x && x <= hi
 }
 
-// Whether four buffers do not differ in length.
+// Whether four buffers do not differ in length; `==` of slices would compare what stands in them.
 #[tactic(auto, unfolding(crate::specs::Table::alike))]
 fn alike(temp: &[f32], temp_2: &[f32], out: &[f32], aux: &[f32]) -> bool
     ensures { result ≡ alike (record { temp = temp.now; temp2 = temp_2.now; out = out.now; aux = aux.now }) }
@@ -52,7 +52,7 @@ fn alike(temp: &[f32], temp_2: &[f32], out: &[f32], aux: &[f32]) -> bool
     temp_2.len() == n && out.len() == n && aux.len() == n
 }
 
-// A row of the table.
+// A row of the table: the flag is what the row tests, and `?` leaves at the first that applies.
 #[tactic(auto, unfolding(crate::specs::Table::first))]
 fn refuse_if(applies: bool, reason: Reason) -> Verdict
     ensures { result ≡ first (reason ⇐ applies ∷ []) }
@@ -88,6 +88,7 @@ fn check_knobs(k: Knobs) -> Verdict
 }
 
 // The checks of each call: whether number 1 applies, the slot named, and its kind where the table asks for it.
+// `kind` is the caller's number, which may be any; a caller has `bad`, `slot` and `kind` from three places, and no struct of them.
 #[tactic(auto, unfolding(crate::specs::Table::verdict, crate::specs::Table::checks, crate::specs::Table::first))]
 pub fn check_open(bad: bool, slot: usize, kind: u32, sample_rate_hz: f32) -> Verdict
     ensures { (n : ℕ) → result ≡ verdict bad n (record { slot = slot; act = opening kind sample_rate_hz }) }
@@ -101,6 +102,7 @@ pub fn check_open(bad: bool, slot: usize, kind: u32, sample_rate_hz: f32) -> Ver
     )
 }
 
+// `kind` is what the slot's memory holds, which may be any number: 0 is an empty slot.
 #[tactic(auto, unfolding(crate::specs::Table::verdict, crate::specs::Table::checks, crate::specs::Table::first))]
 pub fn check_reset(bad: bool, slot: usize, kind: u32) -> Verdict
     ensures { result ≡ verdict bad kind (record { slot = slot; act = reset }) }
@@ -111,6 +113,7 @@ pub fn check_reset(bad: bool, slot: usize, kind: u32) -> Verdict
     refuse_if(kind == 2, Reason::NoReset)
 }
 
+// `kind` is what the slot's memory holds, which may be any number: 0 is an empty slot.
 #[tactic(auto, unfolding(crate::specs::Table::verdict, crate::specs::Table::checks, crate::specs::Table::first))]
 pub fn check_render(
     bad: bool,
@@ -135,7 +138,7 @@ pub fn check_render(
     check_knobs(k)
 }
 
-// The checks of a render into the four buffers that it is lent.
+// The checks of a render into the four buffers that it is lent, of a slot whose memory may hold any number for a kind.
 pub fn check_lent(bad: bool, slot: usize, kind: u32, k: Knobs, b: &Buffers) -> Verdict
     ensures { result ≡ verdict bad kind (record {
       slot = slot;

@@ -12,14 +12,14 @@ use noise::buffers::Buffers;
 use noise::excitation::Knobs;
 use string_voice::string_voice::StringVoice;
 
-// Whether buffers have one length, which the bank accepts.
+// Whether buffers have one length, which the bank accepts. No crate of the bank stands below this one, and `==` of slices would compare what stands in them.
 fn alike(temp: usize, temp_2: usize, out: usize, aux: usize) -> bool
     ensures { result ≡ alike_sizes temp temp_2 out aux }
 {
     (temp == out) & (temp_2 == out) & (aux == out) & (out < 4097)
 }
 
-// Whether lines and buffers have a string voice's sizes.
+// Whether lines and buffers have a string voice's sizes, by their lengths alone.
 fn fits(lines: usize, temp: usize, temp_2: usize, out: usize, aux: usize) -> bool
     ensures { result ≡ sizes_fit lines temp temp_2 out aux }
 {
@@ -27,7 +27,7 @@ fn fits(lines: usize, temp: usize, temp_2: usize, out: usize, aux: usize) -> boo
 }
 
 // A new string voice renders the same buffers over and over; gives the generator's word after them.
-// Lines and buffers of other sizes than a voice's are left alone.
+// Lines and buffers of other sizes than a voice's are left alone. Knobs and buffers go one by one, as C passes them.
 #[unsafe(no_mangle)]
 pub extern "C" fn strings_render(
     sample_rate_hz: f32,
@@ -87,7 +87,7 @@ pub extern "C" fn strings_render(
     drawn
 }
 
-// The same of a new modal voice.
+// The same of a new modal voice. A generic loop for both would need a trait with a law of what a block leaves, with lines for one voice and none for the other.
 #[unsafe(no_mangle)]
 pub extern "C" fn modals_render(
     sustain: bool,

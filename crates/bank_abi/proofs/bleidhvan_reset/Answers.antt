@@ -18,8 +18,8 @@ reset_string-after-requires c =
     let t = taken a.bytes.now a.lines.now (record { slot = a.slot; act = reset }) c.check_reset.ensures c.bad-bad.ensures c.kind_at-kind.ensures c.in-Ok.is in
     (t.slot_within, t.lines)
 
-pub put_string_nth-requires : goal.put_string_nth-requires
-put_string_nth-requires c =
+pub put_nth-requires : goal.put_nth-requires
+put_nth-requires c =
     let a = c.args in
     let t = taken a.bytes.now a.lines.now (record { slot = a.slot; act = reset }) c.check_reset.ensures c.bad-bad.ensures c.kind_at-kind.ensures c.in-Ok.is in
     (t.slot_within, t.size)
@@ -33,6 +33,6 @@ pub returns-in-Ok : goal.returns-in-Ok
 returns-in-Ok c = λ w.
     let a = c.args in
     let x = slot_at (decode_bank a.bytes.now) a.slot in
-    let p = c.put_string_nth.ensures in
+    let p = c.put_nth.ensures in
     accepted (record { bytes = a.bytes.now; word = w; mem = a.lines.now }) (record { slot = a.slot; act = reset }) _ (taken a.bytes.now a.lines.now (record { slot = a.slot; act = reset }) c.check_reset.ensures c.bad-bad.ensures c.kind_at-kind.ensures c.in-Ok.is) tt
     (wrote (record { bytes = a.bytes.now; word = w; mem = a.lines.now }) (record { slot = a.slot; act = reset }) x _ _ refl (c.reset_string-after.ensures x w (sym c.string_nth-voice.ensures)) p.0 p.1)

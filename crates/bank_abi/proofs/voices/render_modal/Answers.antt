@@ -6,8 +6,8 @@ use Rattle.slots.specs.Calls.{Bufs, render}
 use Rattle.bank_abi.proofs.Crosses.{wrote}
 use Rattle.bank_abi.proofs.voices.render_modal.Goals as goal
 
-pub render_modal-r-requires : goal.render_modal-r-requires
-render_modal-r-requires c = let p = c.requires in (ap (λ (x : Slot). x.kind) c.nth-x.ensures ∙ p.0, p.2)
+pub render_modal-after-requires : goal.render_modal-after-requires
+render_modal-after-requires c = let p = c.requires in (ap (λ (x : Slot). x.kind) c.nth-x.ensures ∙ p.0, p.2)
 
 pub returns-clause-wrote : goal.returns-clause-wrote
 returns-clause-wrote c = λ mem.
@@ -15,4 +15,4 @@ returns-clause-wrote c = λ mem.
     let u : Bufs = held a.b.now in
     let x = c.nth-x in
     let p = c.put_nth.ensures in
-    wrote (record { bytes = a.bytes.now; word = a.word; mem = mem }) (record { slot = a.slot; act = render a.k u }) x.result _ _ x.ensures (c.render_modal-r.ensures.moved mem) p.0 p.1
+    wrote (record { bytes = a.bytes.now; word = a.word; mem = mem }) (record { slot = a.slot; act = render a.k u }) x.result _ _ x.ensures (c.render_modal-after.ensures.moved mem) p.0 p.1
