@@ -1,5 +1,5 @@
 // A recorded call of a voice or of a bank: the words that all have, its buffers, and what calls add up to.
-ghost use Rattle.std.specs.Prelude.{◌≡◌, ◌+◌, ◌%◌, ◌^◌, ◌≤◌, slice_index, IfSome};
+ghost use Rattle.std.specs.Prelude.{◌≡◌, ◌+◌, ◌%◌, ◌^◌, ◌<◌, ◌≤◌, slice_index, IfSome, IfNone};
 ghost use Rattle.answers.specs.Kinds.{Decodes};
 
 use crate::digests::digest_of_buffer;
@@ -71,7 +71,8 @@ pub fn knobs_of(row: &[u32; 64]) -> Knobs {
 
 // The frames of a voice's block; none above 4096.
 pub fn frames_of(row: &[u32; 64]) -> Option<usize>
-    ensures { IfSome result (λ n. (n ≡ slice_index row.now 2) × (n ≤ 4096)) }
+    ensures frames { IfSome result (λ n. (n ≡ slice_index row.now 2) × (n ≤ 4096)) }
+    ensures none { IfNone result (4096 < slice_index row.now 2) }
 {
     let n = row[2] as usize;
     if n > 4096 {
