@@ -4,11 +4,13 @@ ghost use Rattle.answers.specs.Kinds.{Decodes};
 
 use crate::digests::digest_of_buffer;
 use crate::replay::Compared;
+use crate::words::padded;
 use crate::{digests, draws};
 use ground::bits::{float_of, pattern_of};
 use noise::buffers::Buffers;
 use noise::excitation::Knobs;
 use std::io;
+use std::ops::Add;
 
 // What a call does; the last two are of a bank alone.
 #[derive(Clone, Copy, PartialEq, Eq)]
@@ -41,31 +43,34 @@ impl TryFrom<u32> for Kind {
     }
 }
 
-// The first n words of a row, and none after them.
-pub fn first_words(row: &[u32; 64], n: usize) -> [u32; 64]
-    requires { n ≤ 64 }
-{
-    let mut words = [0; 64];
-    words[..n].copy_from_slice(&row[..n]);
-    words
-}
-
 // The inputs of a voice's row, and the digests of no buffers.
 pub fn inputs_of(row: &[u32; 64]) -> [u32; 64] {
-    let mut inputs = first_words(row, 11);
+    let mut inputs = padded(&row[..11]);
     inputs[35..39].fill(digests::BEGIN);
     inputs
 }
 
 pub fn knobs_of(row: &[u32; 64]) -> Knobs {
+    let [
+        _,
+        flags,
+        _,
+        _,
+        accent,
+        f0,
+        structure,
+        brightness,
+        damping,
+        ..
+    ] = *row;
     Knobs {
-        sustain: row[1] % 2 == 1,
-        trigger: row[1] / 2 % 2 == 1,
-        accent: float_of(row[4]),
-        f0: float_of(row[5]),
-        structure: float_of(row[6]),
-        brightness: float_of(row[7]),
-        damping: float_of(row[8]),
+        sustain: flags % 2 == 1,
+        trigger: flags / 2 % 2 == 1,
+        accent: float_of(accent),
+        f0: float_of(f0),
+        structure: float_of(structure),
+        brightness: float_of(brightness),
+        damping: float_of(damping),
     }
 }
 
@@ -137,19 +142,22 @@ pub struct Sums {
     pub samples: u32,
 }
 
-impl Sums {
-    pub fn plus(self, more: Sums) -> Sums
-        ensures sequences { result.sequences ≡ (self.sequences + more.sequences) % 2 ^ 32 }
-        ensures blocks { result.blocks ≡ (self.blocks + more.blocks) % 2 ^ 32 }
-        ensures samples { result.samples ≡ (self.samples + more.samples) % 2 ^ 32 }
-    {
+impl Add for Sums {
+    type Output = Sums;
+
+    ghost add_gives = { λ a b sum. (sum.sequences ≡ (a.sequences + b.sequences) % 2 ^ 32) × (sum.blocks ≡ (a.blocks + b.blocks) % 2 ^ 32)
+        × (sum.samples ≡ (a.samples + b.samples) % 2 ^ 32) };
+
+    fn add(self, more: Sums) -> Sums {
         Sums {
             sequences: self.sequences.wrapping_add(more.sequences),
             blocks: self.blocks.wrapping_add(more.blocks),
             samples: self.samples.wrapping_add(more.samples),
         }
     }
+}
 
+impl Sums {
     // The line of the sums over all calls of that name.
     pub fn total_line(&self, rt: &impl Print, name: &str, compared: Compared) -> io::Result<()> {
         let Sums {
@@ -162,21 +170,5 @@ impl Sums {
             "{name}: {sequences} sequences of {records} calls, {blocks} blocks of {samples} samples, "
         )?;
         println!(rt; "{differ} calls differ")
-    }
-}
-
-// What a voice's call adds: an opening begins a sequence, a render is a block.
-pub fn voice_adds(row: &[u32; 64]) -> Sums {
-    match Kind::try_from(row[0]) {
-        Ok(Kind::Opening) => Sums {
-            sequences: 1,
-            ..Sums::default()
-        },
-        Ok(Kind::Render) => Sums {
-            sequences: 0,
-            blocks: 1,
-            samples: row[2],
-        },
-        _ => Sums::default(),
     }
 }

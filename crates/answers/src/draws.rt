@@ -8,7 +8,7 @@ fn unit(w: u32) -> f32 {
 }
 
 // The word s in the shape of that number; 0 where there is none.
-// A shape stays the record's nibble: an enum would name each line of this match once more, and nothing else reads it.
+// By the nibble of the record, since an enum would name each line of this match once more and no other function tells one shape from another.
 fn shaped(shape: u32, s: u32) -> u32 {
     match shape {
         1 => s,
@@ -27,24 +27,17 @@ fn shaped(shape: u32, s: u32) -> u32 {
     }
 }
 
-// The inputs of a case, and the word after it.
-#[derive(Clone, Copy)]
-pub struct Case {
-    pub inputs: [u32; 8],
-    pub word: u32,
-}
-
-// The next case of a run; nibble k of the shapes, from the lowest, is the shape of input k.
-pub fn draw(shapes: u32, word: u32) -> Case {
+// The inputs of the next case of a run, by the generator's word; nibble k of the shapes, from the lowest, is the shape of input k.
+// A caller may hand any word of shapes: a nibble that is no shape gives the input 0.
+pub fn draw(shapes: u32, word: &mut u32) -> [u32; 8] {
     let mut inputs = [0; 8];
-    let mut s = word;
     let mut rest = shapes;
     for input in &mut inputs {
-        s = get_word(s);
-        *input = shaped(rest % 16, s);
+        *word = get_word(*word);
+        *input = shaped(rest % 16, *word);
         rest /= 16;
     }
-    Case { inputs, word: s }
+    inputs
 }
 
 // A sample of a buffer from the seed word z: any float where z % 8 is 7, else a float of -1 to 1.

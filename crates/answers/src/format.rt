@@ -17,22 +17,16 @@ pub fn text_length(header: &[u8]) -> usize
     }
 }
 
-// A number with one digit more; 0 after anything else.
-fn with_digit(number: u32, byte: u8) -> u32 {
-    match byte {
-        b'0'..=b'9' => number.wrapping_mul(10).wrapping_add(u32::from(byte - b'0')),
-        _ => 0,
-    }
-}
-
 // The number that the decimal digits before the end make.
 pub fn trailing_number(text: &[u8]) -> u32 {
-    text.iter()
-        .fold(0, |number, &byte| with_digit(number, byte))
+    text.iter().fold(0, |number: u32, &byte| match byte {
+        b'0'..=b'9' => number.wrapping_mul(10).wrapping_add(u32::from(byte - b'0')),
+        _ => 0,
+    })
 }
 
 // Reads until there is no room or there are no more bytes, and gives how many were read.
-// The loop stays a `while`: what each read gives says how far it goes, and the library reads to the end or fails.
+// A `while`, since what each read gives says how far it goes; the library's read to the end needs a heap, and its exact one says little of a shorter file.
 fn read_full<R: io::Read>(reader: &mut R, bytes: &mut [u8]) -> io::Result<usize>
     ensures { IfOk result (λ n. Counts n bytes.new) }
 {

@@ -6,4 +6,5 @@ pub mod digests;
 pub mod draws;
 pub mod format;
 pub mod replay;
+pub mod voices;
 pub mod words;

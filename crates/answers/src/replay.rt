@@ -15,6 +15,14 @@ pub struct Compared {
     pub differ: u32,
 }
 
+impl Compared {
+    // Counts a record that was compared.
+    fn note(&mut self, differs: bool) {
+        self.records = self.records.wrapping_add(1);
+        self.differ = self.differ.wrapping_add(u32::from(differs));
+    }
+}
+
 // What a file asks, and the port as the records so far left it; each record is of W words.
 pub trait Asked<const W: usize> {
     const FILE: &'static str;
@@ -28,14 +36,17 @@ pub trait Asked<const W: usize> {
     // The record that the port gives to the same question; none where there is no such question.
     fn again(&mut self, row: &[u32; W]) -> Option<[u32; W]>;
 
-    // Counts a record, asked again and compared.
-    fn count(&mut self, row: &[u32; W], again: Option<&[u32; W]>, differs: bool);
+    // Tallies a record, asked again and compared.
+    fn tally(&mut self, row: &[u32; W], again: Option<&[u32; W]>, differs: bool);
 
     // The lines before those of the file's length and digest.
     fn lines(&self, rt: &impl Print) -> io::Result<()>;
 
     // The last line.
     fn total(&self, rt: &impl Print, compared: Compared) -> io::Result<()>;
+
+    // A record is short.
+    ghost short: { W ≤ 64 };
 }
 
 // Words, a space before each.
@@ -56,23 +67,19 @@ fn compare<const W: usize, S: Asked<W>>(
     rt: &impl Print,
     asked: &mut S,
     row: &[u32; W],
-    before: Compared,
-) -> io::Result<Compared>
-    requires { W ≤ 64 }
-{
+    compared: &mut Compared,
+) -> io::Result<()> {
     let again = asked.again(row);
     let other = again.unwrap_or([NOTHING; W]);
     let differs = other != *row;
-    asked.count(row, again.as_ref(), differs);
-    if differs && before.differ < 5 {
-        let (name, record, number) = (S::name(row), S::RECORD, before.records);
+    asked.tally(row, again.as_ref(), differs);
+    if differs && compared.differ < 5 {
+        let (name, record, number) = (S::name(row), S::RECORD, compared.records);
         let (recorded, given) = (Words(row), Words(&other));
         println!(rt; "{name} differs at {record} {number}: recorded{recorded}, again{given}")?;
     }
-    Ok(Compared {
-        records: before.records.wrapping_add(1),
-        differ: before.differ.wrapping_add(u32::from(differs)),
-    })
+    compared.note(differs);
+    Ok(())
 }
 
 // A line where the file's length is not the one that its header says.
@@ -97,15 +104,13 @@ pub fn replay<const W: usize, S: Asked<W>, R: io::Read>(
     asked: &mut S,
     records: &mut Records<R>,
     stated: u32,
-) -> io::Result<()>
-    requires { W ≤ 64 }
-{
+) -> io::Result<()> {
     let mut compared = Compared::default();
     for _ in 0..65536u32 {
         let Some(row) = records.next::<W>()? else {
             break;
         };
-        compared = compare(rt, asked, &row, compared)?;
+        compare(rt, asked, &row, &mut compared)?;
     }
     asked.lines(rt)?;
     length_line::<W, S>(rt, compared.records, records.left, stated)?;

@@ -5,6 +5,7 @@ use crate::Banks;
 use answers::calls::{Samples, knobs_of, write_buffers};
 use answers::draws;
 use answers::words::low;
+use bank::calls::Opened;
 use ground::bits::float_of;
 use noise::buffers::Buffers;
 use slots::answers::Answer;
@@ -20,10 +21,12 @@ fn lent(word: u32, slice: &[f32]) -> usize
 // Writes 01's number and the three counts.
 fn write_answer(row: &mut [u32; 64], answer: Answer) {
     let counts = slots::answers::counts_of(answer);
-    row[17] = slots::answers::number_of(answer);
-    row[18] = low(counts.burst);
-    row[19] = low(counts.dust);
-    row[20] = low(counts.dispersion);
+    row[17..21].copy_from_slice(&[
+        slots::answers::number_of(answer),
+        low(counts.burst),
+        low(counts.dust),
+        low(counts.dispersion),
+    ]);
 }
 
 impl Banks {
@@ -35,7 +38,7 @@ impl Banks {
     }
 
     // Puts a number in a slot, as no call leaves it: 0 is its kind, 1 and 2 its write places, 3 what is left.
-    // Which one stays the record's number: an enum would name the four fields a second time, and nothing else reads it.
+    // By the record's number, since an enum would name the four fields a second time and no other function tells them apart.
     pub(crate) fn put(&mut self, row: &[u32; 64]) {
         let slot = row[11] as usize;
         if slot > 7 {
@@ -51,28 +54,29 @@ impl Banks {
         }
     }
 
-    pub(crate) fn open(&mut self, row: &mut [u32; 64]) {
+    // A call of the row's slot, with as much of line memory as the row says.
+    fn call<F: FnOnce(Bank, &mut [f32], usize) -> Opened>(&mut self, row: &mut [u32; 64], call: F)
+        requires { F.IsAlwaysCallable call }
+    {
         let n = lent(row[16], &self.lines);
-        let slot = row[11] as usize;
         let before = self.bank;
-        let r = bank::calls::open(
-            before,
-            &mut self.lines[..n],
-            slot,
-            row[12],
-            float_of(row[3]),
-        );
+        let r = call(before, &mut self.lines[..n], row[11] as usize);
         self.bank = r.bank;
         write_answer(row, r.answer);
     }
 
+    pub(crate) fn open(&mut self, row: &mut [u32; 64]) {
+        let (kind, sample_rate) = (row[12], float_of(row[3]));
+        self.call(row, |bank, lines, slot| {
+            bank::calls::open(bank, lines, slot, kind, sample_rate)
+        });
+    }
+
     pub(crate) fn reset(&mut self, row: &mut [u32; 64]) {
-        let n = lent(row[16], &self.lines);
-        let slot = row[11] as usize;
-        let before = self.bank;
-        let r = bank::calls::reset(before, &mut self.lines[..n], slot);
-        self.bank = r.bank;
-        write_answer(row, r.answer);
+        self.call(
+            row,
+            |bank, lines, slot| bank::calls::reset(bank, lines, slot),
+        );
     }
 
     // A block in buffers of up to 4,224 frames, of the lengths that the row says.

@@ -1,11 +1,14 @@
 // Lists of calls of a bank: every recorded call is made again.
 #![tactic(auto)]
 
+ghost use Rattle.std.proofs.Common.{rules};
+
 mod calls;
 
-use answers::calls::{Kind, Sums, first_words};
+use answers::calls::{Kind, Sums};
 use answers::digests::{BEGIN, digest_of, digest_of_buffer, digest_with};
 use answers::replay::{Asked, Compared};
+use answers::words::padded;
 use slots::slots::{Bank, Slot};
 use std::io;
 
@@ -84,7 +87,7 @@ impl Asked<64> for Banks {
     }
 
     fn again(&mut self, row: &[u32; 64]) -> Option<[u32; 64]> {
-        let mut given = first_words(row, 17);
+        let mut given = padded(&row[..17]);
         given[22..26].fill(BEGIN);
         match Kind::try_from(row[0]) {
             Ok(Kind::Opening) => self.open(&mut given),
@@ -98,9 +101,9 @@ impl Asked<64> for Banks {
         Some(given)
     }
 
-    fn count(&mut self, row: &[u32; 64], again: Option<&[u32; 64]>, _differs: bool) {
+    fn tally(&mut self, row: &[u32; 64], again: Option<&[u32; 64]>, _differs: bool) {
         let kind = Kind::try_from(row[0]).ok();
-        self.sums = self.sums.plus(adds_of(kind, row));
+        self.sums = self.sums + adds_of(kind, row);
         if let (Some(given), Some(Kind::Opening | Kind::Reset | Kind::Render)) = (again, kind) {
             self.count_number(given);
         }
@@ -118,4 +121,6 @@ impl Asked<64> for Banks {
     fn total(&self, rt: &impl Print, compared: Compared) -> io::Result<()> {
         self.sums.total_line(rt, "bank", compared)
     }
+
+    ghost short = { Prim.search rules };
 }

@@ -10,6 +10,8 @@ pub mod tables;
 ghost use Rattle.std.specs.Prelude.{◌≡◌, ◌-◌, ◌≤◌, ◌++◌, replicate};
 
 use answers::replay::NOTHING;
+use answers::words::{low, padded};
+use ground::bits::{float_of, pattern_of};
 
 // Each function, with the record's number of it.
 #[derive(Clone, Copy, PartialEq, Eq)]
@@ -45,9 +47,9 @@ pub struct UnknownFunction(pub u32);
 impl TryFrom<u32> for Function {
     type Error = UnknownFunction;
 
-    fn try_from(number: u32) -> Result<Function, UnknownFunction> {
-        let found = Function::ALL.iter().find(|f| **f as u32 == number);
-        found.copied().ok_or(UnknownFunction(number))
+    fn try_from(word: u32) -> Result<Function, UnknownFunction> {
+        let found = Function::ALL.iter().find(|f| **f as u32 == word);
+        found.copied().ok_or(UnknownFunction(word))
     }
 }
 
@@ -123,22 +125,26 @@ impl Function {
 }
 
 // What the port answers, where the function is asked such inputs; none uses the last.
-// The functions keep this match: a table of closures would need them all of one form, and says no more than the arms.
+// A match, since a table of closures would need them all of one form and says no more than the arms.
 pub fn answer(function: Function, inputs: [u32; 8]) -> Option<[u32; 7]> {
     let [a, b, c, d, ..] = inputs;
+    let [x, y, z, ..] = inputs.map(float_of);
     Some(match function {
-        Function::WholePart => floats::whole_part(a),
-        Function::Fraction => floats::fraction(a),
-        Function::Min => floats::min(a, b),
-        Function::Clamp => floats::clamp(a, b, c, d),
-        Function::Abs => floats::abs(a),
+        Function::WholePart => halves(ground::floats::whole_part(x)),
+        Function::Fraction => one(ground::floats::fraction(x)),
+        Function::Min => one(ground::floats::min(x, y)),
+        Function::Clamp => {
+            let (lo, hi) = floats::ends(y, z, d);
+            one(ground::floats::clamp(x, lo, hi))
+        }
+        Function::Abs => one(ground::floats::abs(x)),
         Function::Random => random::draw(a),
         Function::Dust => random::dust(a, b),
-        Function::Interpolate => interpolation::interpolate(a),
-        Function::OnePole => interpolation::one_pole(a, b, c),
-        Function::Crossfade => interpolation::crossfade(a, b, c),
+        Function::Interpolate => one(utils::interpolate(x)),
+        Function::OnePole => one(utils::one_pole(x, y, z)),
+        Function::Crossfade => one(utils::crossfade(x, y, z)),
         Function::ParameterInterpolator => interpolation::parameter_interpolator(a, b, c, d)?,
-        Function::Tan => filter::tan(a, b),
+        Function::Tan => one(utils::filter::tan(x, filter::approximation(b))),
         Function::DcBlocker => filter::dc_blocker(a, b, c),
         Function::SvfProcess => filter::svf_process(inputs),
         Function::SvfProcessBuffer => filter::svf_process_buffer(inputs),
@@ -147,7 +153,7 @@ pub fn answer(function: Function, inputs: [u32; 8]) -> Option<[u32; 7]> {
         Function::Reset => delay_line::reset(a, b, c),
         Function::CosineOscillator => cosine_oscillator::cosine_oscillator(a, b),
         Function::Amplitudes => cosine_oscillator::amplitudes(a),
-        Function::SemitonesToRatio => tables::semitones_to_ratio(a),
+        Function::SemitonesToRatio => one(utils::units::semitones_to_ratio(x)),
         Function::Tables => tables::entry(a, b)?,
     })
 }
@@ -162,12 +168,15 @@ pub fn outputs<const N: usize>(given: [u32; N]) -> [u32; 7]
     requires { N ≤ 7 }
     ensures { result ≡ given.entry ++ replicate (7 - N) 0 }
 {
-    let mut all = [0; 7];
-    all[..N].copy_from_slice(&given);
-    all
+    padded(&given)
 }
 
 // The bits of a float as the one output.
 pub fn one(x: f32) -> [u32; 7] {
-    outputs([ground::bits::pattern_of(x)])
+    outputs([pattern_of(x)])
+}
+
+// The lower and the upper word of a number.
+fn halves(x: usize) -> [u32; 7] {
+    outputs([low(x), low(x / 4294967296)])
 }

@@ -1,6 +1,8 @@
 // The leaves: every recorded question to a single function is asked again.
 #![tactic(auto)]
 
+ghost use Rattle.std.proofs.Common.{rules};
+
 pub mod functions;
 pub mod records;
 pub mod tally;
@@ -17,21 +19,19 @@ pub struct Leaves {
     counts: [Count; 23],
 }
 
-// What a record counts for: nothing but a difference where it asks nothing.
-fn count_of(row: &[u32; 16], asks: bool, differs: bool) -> Count {
-    let mut count = Count {
-        differ: u32::from(differs),
-        ..Count::default()
-    };
-    if asks {
-        if records::kind_of(row) == Some(Kind::Raw) {
-            count.raw = 1;
-        } else {
-            count.digests = 1;
-            count.cases = row[2];
-        }
+// What a record of that kind counts for.
+fn count_of(kind: Kind, row: &[u32; 16]) -> Count {
+    match kind {
+        Kind::Raw => Count {
+            raw: 1,
+            ..Count::default()
+        },
+        Kind::Digest => Count {
+            digests: 1,
+            cases: row[2],
+            ..Count::default()
+        },
     }
-    count
 }
 
 impl Asked<16> for Leaves {
@@ -50,12 +50,19 @@ impl Asked<16> for Leaves {
         records::again(row)
     }
 
-    fn count(&mut self, row: &[u32; 16], again: Option<&[u32; 16]>, differs: bool) {
-        // A record that begins with the word of nothing counts as a run.
-        let more = count_of(row, again.is_some() || row[0] == NOTHING, differs);
+    fn tally(&mut self, row: &[u32; 16], again: Option<&[u32; 16]>, differs: bool) {
+        let kind = match again {
+            Some(_) => records::kind_of(row),
+            // The record of nothing begins with this word as well, so this one counts as a run.
+            None if row[0] == NOTHING => Some(Kind::Digest),
+            None => None,
+        };
+        let more = Count {
+            differ: u32::from(differs),
+            ..kind.map_or(Count::default(), |kind| count_of(kind, row))
+        };
         let at = place(records::function_of(row));
-        let before = self.counts[at];
-        self.counts[at] = before.plus(more);
+        self.counts[at] = self.counts[at] + more;
     }
 
     // A line for each function, and one for the records that no function has, if any differs.
@@ -71,10 +78,7 @@ impl Asked<16> for Leaves {
 
     // The sums over all functions.
     fn total(&self, rt: &impl Print, _compared: Compared) -> io::Result<()> {
-        let sum = self
-            .counts
-            .iter()
-            .fold(Count::default(), |sum, c| sum.plus(*c));
+        let sum = self.counts.iter().fold(Count::default(), |sum, c| sum + *c);
         let Count {
             raw,
             digests,
@@ -85,4 +89,6 @@ impl Asked<16> for Leaves {
             "total: {raw} raw records, {digests} digests of {cases} cases, {differ} differ"
         )
     }
+
+    ghost short = { Prim.search rules };
 }

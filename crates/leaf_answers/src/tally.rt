@@ -1,8 +1,9 @@
 // What was compared and what differed.
-ghost use Rattle.std.specs.Prelude.{◌<◌};
+ghost use Rattle.std.specs.Prelude.{◌≡◌, ◌+◌, ◌%◌, ◌^◌, ◌<◌};
 
 use crate::functions::Function;
 use std::io;
+use std::ops::Add;
 
 // Raw records, digest records, the cases that these stand for, and how many of the records differ.
 #[derive(Clone, Copy, Default)]
@@ -13,8 +14,13 @@ pub struct Count {
     pub differ: u32,
 }
 
-impl Count {
-    pub fn plus(self, more: Count) -> Count {
+impl Add for Count {
+    type Output = Count;
+
+    ghost add_gives = { λ a b sum. (sum.raw ≡ (a.raw + b.raw) % 2 ^ 32) × (sum.digests ≡ (a.digests + b.digests) % 2 ^ 32)
+        × (sum.cases ≡ (a.cases + b.cases) % 2 ^ 32) × (sum.differ ≡ (a.differ + b.differ) % 2 ^ 32) };
+
+    fn add(self, more: Count) -> Count {
         Count {
             raw: self.raw.wrapping_add(more.raw),
             digests: self.digests.wrapping_add(more.digests),
@@ -22,7 +28,9 @@ impl Count {
             differ: self.differ.wrapping_add(more.differ),
         }
     }
+}
 
+impl Count {
     // The line of a function of that name.
     pub fn line(&self, rt: &impl Print, name: &str) -> io::Result<()> {
         let Count {

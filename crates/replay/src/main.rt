@@ -1,10 +1,9 @@
 // Asks the port every question of the records again, and prints what was compared and how much differed.
 #![tactic(auto)]
 
-ghost use Rattle.std.specs.Prelude.{◌≤◌};
-
 use answers::format::{self, Records};
 use answers::replay::{Asked, replay};
+use answers::voices::Calls;
 use bank_answers::Banks;
 use leaf_answers::Leaves;
 use modal_answers::Modals;
@@ -14,15 +13,13 @@ use string_answers::Strings;
 
 fn main(rt: HostRuntime) -> io::Result<()> {
     ask(&rt, &mut Leaves::default())?;
-    ask(&rt, &mut Strings::default())?;
-    ask(&rt, &mut Modals::default())?;
+    ask(&rt, &mut Calls::<Strings>::default())?;
+    ask(&rt, &mut Calls::<Modals>::default())?;
     ask(&rt, &mut Banks::default())
 }
 
 // Asks all that a file asks, where it can be opened and has a whole header.
-fn ask<const W: usize, S: Asked<W>>(rt: &(impl Files + Print), asked: &mut S) -> io::Result<()>
-    requires { W ≤ 64 }
-{
+fn ask<const W: usize, S: Asked<W>>(rt: &(impl Files + Print), asked: &mut S) -> io::Result<()> {
     let Ok(file) = fs::open(rt, S::FILE) else {
         return println!(rt; "{} cannot be opened", S::FILE);
     };

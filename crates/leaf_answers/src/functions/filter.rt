@@ -1,7 +1,7 @@
-// `tan`, `DcBlocker` and the low pass of `Svf`, of filter.rs.
+// `DcBlocker` and the low pass of `Svf`, of filter.rs.
 ghost use Rattle.std.specs.Prelude.{◌≤◌};
 
-use crate::functions::{one, outputs};
+use crate::functions::outputs;
 use answers::digests::{BEGIN, digest_of_buffer, digest_with};
 use answers::draws;
 use ground::bits::{float_of, pattern_of};
@@ -16,16 +16,12 @@ fn samples(word: u32) -> usize
 }
 
 // The lowest bit is 0 for Fast and 1 for Dirty.
-fn approximation(word: u32) -> FrequencyApproximation {
+pub(crate) fn approximation(word: u32) -> FrequencyApproximation {
     if word % 2 == 0 {
         FrequencyApproximation::Fast
     } else {
         FrequencyApproximation::Dirty
     }
-}
-
-pub fn tan(f: u32, approximate: u32) -> [u32; 7] {
-    one(utils::filter::tan(float_of(f), approximation(approximate)))
 }
 
 // The blocker after the samples from a seed, and the digest of what it gave.

@@ -1,19 +1,7 @@
-// `interpolate`, `one_pole` and `crossfade` of utils/mod.rs, and parameter_interpolator.rs.
-use crate::functions::{one, outputs};
+// The interpolation of parameter_interpolator.rs.
+use crate::functions::outputs;
 use ground::bits::{float_of, pattern_of};
 use utils::parameter_interpolator::ParameterInterpolator;
-
-pub fn interpolate(structure: u32) -> [u32; 7] {
-    one(utils::interpolate(float_of(structure)))
-}
-
-pub fn one_pole(out: u32, in_: u32, coefficient: u32) -> [u32; 7] {
-    one(utils::one_pole(float_of(out), float_of(in_), float_of(coefficient)))
-}
-
-pub fn crossfade(a: u32, b: u32, fade: u32) -> [u32; 7] {
-    one(utils::crossfade(float_of(a), float_of(b), float_of(fade)))
-}
 
 // The kept value, the increment, and the last `next`, which is the kept value where there is one.
 // Asked up to a size of 4096 and 64 calls of `next`.

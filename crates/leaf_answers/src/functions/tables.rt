@@ -1,13 +1,8 @@
-// `semitones_to_ratio` of units.rs, and the entries of the four tables.
+// The entries of the four tables.
 use crate::functions::one;
-use ground::bits::float_of;
-
-pub fn semitones_to_ratio(semitones: u32) -> [u32; 7] {
-    one(utils::units::semitones_to_ratio(float_of(semitones)))
-}
 
 // An entry of the stiffness, the svf shift, the high or the low pitch table; none of another.
-// Which one stays the record's number: an enum would name the four tables a second time, and nothing else reads it.
+// By the record's number, since an enum would name the four tables a second time and no other function tells them apart.
 pub fn entry(which: u32, i: u32) -> Option<[u32; 7]> {
     let i = i as usize;
     let looked_up = match which {
