@@ -2,7 +2,7 @@
 ghost use Rattle.std.specs.Prelude.{◌≡◌};
 ghost use Rattle.std.specs.List.{fold};
 ghost use Rattle.answers.specs.Digests.{digest_with};
-ghost use Rattle.modal_answers.specs.Numbers.{batch_words, digest_with_voice};
+ghost use Rattle.modal_answers.specs.Numbers.{batch_words, numbers_of};
 
 use answers::digests::{BEGIN, digest_of, digest_with};
 use ground::bits::pattern_of;
@@ -50,7 +50,7 @@ fn digest_of_batches(h: u32, batches: &[Batch]) -> u32
 
 // The digest with every number that a voice keeps: the strike, the amplitudes, the filter and all batches.
 pub fn digest_with_voice(h: u32, voice: &ModalVoice) -> u32
-    ensures { result ≡ digest_with_voice h voice.now }
+    ensures { result ≡ fold digest_with h (numbers_of voice.now) }
 {
     let filter = &voice.excitation_filter;
     let held = digest_with(h, u32::from(voice.held));
