@@ -42,6 +42,7 @@ pub fn reads(size: u32, seed: u32, writes: u32, delay: u32) -> [u32; 7] {
 }
 
 // An all-pass, and then k more, each of the output before it.
+#[tactic(auto, unfolding(utils::specs::DelayLine::allpass_of))]
 fn allpasses(
     line: &mut [f32],
     place: usize,
