@@ -45,7 +45,7 @@ pub trait Asked<const W: usize> {
     // The last line.
     fn total(&self, rt: &impl Print, compared: Compared) -> io::Result<()>;
 
-    // A record is short.
+    // No record is longer than that of a call.
     ghost short: { W ≤ 64 };
 }
 
