@@ -73,10 +73,7 @@ impl Banks {
     }
 
     pub(crate) fn reset(&mut self, row: &mut [u32; 64]) {
-        self.call(
-            row,
-            |bank, lines, slot| bank::calls::reset(bank, lines, slot),
-        );
+        self.call(row, bank::calls::reset);
     }
 
     // A block in buffers of up to 4,224 frames, of the lengths that the row says.
