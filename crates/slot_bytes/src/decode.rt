@@ -43,6 +43,7 @@ fn voice_at(b: &[u8; 393]) -> StringVoice
     }
 }
 
+#[tactic(auto, unfolding(crate::specs::Layout::modal_in))]
 pub fn modal_at(b: &[u8]) -> ModalVoice
     requires { length b.now ≡ 393 }
     ensures { result ≡ modal_in (words b.now) (eqb (get_or b.now 392 0) 1) }
@@ -69,6 +70,7 @@ fn slot_at(b: &[u8; 393]) -> Slot
 }
 
 // The bytes of each slot of a bank.
+#[tactic(auto, using(crate::proofs::Parts::parts_are))]
 pub fn slots_of(bytes: &[u8]) -> &[[u8; 393]]
     ensures parts { length bytes.now ≡ 3144 → result.now ≡ parts 8 bytes.now }
     ensures eight { length bytes.now ≡ 3144 → length result.now ≡ 8 }
@@ -78,6 +80,7 @@ pub fn slots_of(bytes: &[u8]) -> &[[u8; 393]]
 }
 
 // A slot of a bank. The bytes are a slice, as C hands them, so their length is asked here, in `string_nth` and in `put_nth`.
+#[tactic(auto, using(crate::proofs::Parts::slot_of))]
 pub fn nth(bytes: &[u8], slot: usize) -> Slot
     requires { (slot < 8) × (length bytes.now ≡ 3144) }
     ensures { result ≡ slot_at (decode_bank bytes.now) slot }

@@ -36,6 +36,7 @@ fn put_voice(b: &mut [u8; 393], v: StringVoice)
     put_word(b, 23, v.remaining_noise_samples);
 }
 
+#[tactic(auto, using(crate::proofs::Little::modal_wrote))]
 fn put_modal(b: &mut [u8; 393], m: ModalVoice)
     ensures { (b.new ≡ put_words 24 (modal_words m) b.old) × ModalF32 m }
 {
@@ -45,6 +46,7 @@ fn put_modal(b: &mut [u8; 393], m: ModalVoice)
 }
 
 // A modal voice at rest is written again, which changes bytes only where it holds a NaN.
+#[tactic(auto, unfolding(crate::specs::Layout::decode_slot, crate::specs::Layout::slot_in))]
 fn put_modal_again(b: &mut [u8; 393])
     ensures { (b.new ≡ put_words 24 (modal_words (decode_slot b.old).modal) b.old) × ModalF32 (decode_slot b.old).modal }
 {
@@ -67,6 +69,7 @@ pub trait Put: Copy {
 impl Put for Slot {
     ghost after = { λ x s. x };
 
+    #[tactic(auto, using(crate::proofs::Little::flag_is, crate::proofs::Little::slot_wrote))]
     fn put(self, b: &mut [u8; 393]) {
         put_word(b, 0, self.kind as usize);
         put_voice(b, self.string);
@@ -101,6 +104,7 @@ fn put_part<T: Put>(part: &mut [u8], x: T)
 
 // A slot of a bank is written, whole or its string's voice alone, and the others are kept.
 // Its part is cut here, since a function that lent it on could say what it leaves only by a starred clause.
+#[tactic(auto, using(crate::proofs::Parts::slot_cut, crate::proofs::Parts::put_cut))]
 pub fn put_nth<T: Put>(bytes: &mut [u8], slot: usize, x: T)
     requires { (slot < 8) × (length bytes.old ≡ 3144) }
     ensures { (bytes.new ≡ with_bytes slot (encode_slot (T.after x (slot_at (decode_bank bytes.old) slot))) bytes.old) × SlotF32 (T.after x (slot_at (decode_bank bytes.old) slot)) }

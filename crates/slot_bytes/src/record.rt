@@ -52,6 +52,7 @@ impl Record for f32 {
         ground::bits::float_of(word_at(b, k))
     }
 
+    #[tactic(auto, unfolding(crate::specs::Layout::float_words))]
     fn write(self, b: &mut [u8], k: usize) {
         put_word(b, k, ground::bits::pattern_of(self) as usize);
     }
@@ -189,6 +190,7 @@ impl Record for Batch {
     ghost undone = { batch_back };
 }
 
+#[tactic(auto, using(ground::proofs::Tab::stored_turn, ground::proofs::Tab::stored_end))]
 pub fn read_all<T: Record, const N: usize>(b: &[u8], k: usize) -> [T; N]
     requires some { 0 < N }
     requires room { 4 * (k + T.WORDS * N) ≤ length b.now }
@@ -201,6 +203,7 @@ pub fn read_all<T: Record, const N: usize>(b: &[u8], k: usize) -> [T; N]
     a
 }
 
+#[tactic(auto, using(crate::proofs::Little::written_end, crate::proofs::Little::each_all))]
 pub fn write_all<T: Record, const N: usize>(a: [T; N], b: &mut [u8], k: usize)
     requires { 4 * (k + T.WORDS * N) ≤ length b.old }
     ensures { (b.new ≡ put_words k (each T.to_words a) b.old) × All T.is_f32 N a }

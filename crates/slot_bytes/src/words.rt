@@ -5,6 +5,7 @@ ghost use Rattle.slot_bytes.specs.Words.{words, put_words, each};
 ghost use Rattle.slot_bytes.specs.Layout.{float_in, floats_in, has_no_nan, float_words};
 
 // The k-th word, which written again would change no byte: the library converts four bytes, and this finds them.
+#[tactic(auto, using(crate::proofs::Little::chunk, crate::proofs::Little::word_at, crate::proofs::Stand::word_stands))]
 pub fn word_at(b: &[u8], k: usize) -> u32
     requires { 4 * k + 4 ≤ length b.now }
     ensures { (result ≡ get_or (words b.now) k 0) × (put_words k (result ∷ []) b.now ≡ b.now) }
@@ -14,6 +15,7 @@ pub fn word_at(b: &[u8], k: usize) -> u32
 }
 
 // The k-th word becomes the lowest 32 bits of v: the library converts it, and this puts the four bytes in their place.
+#[tactic(auto, using(crate::proofs::Little::stored_row))]
 pub fn put_word(b: &mut [u8], k: usize, v: usize)
     requires { 4 * k + 4 ≤ length b.old }
     ensures { b.new ≡ put_words k (v ∷ []) b.old }
@@ -23,6 +25,7 @@ pub fn put_word(b: &mut [u8], k: usize, v: usize)
 }
 
 // Whether the k-th float, written again, would change no byte: it is so of every float but a NaN.
+#[tactic(auto, using(crate::proofs::Stand::tested, crate::proofs::Stand::float_stands))]
 fn float_stands(b: &[u8], k: usize) -> bool
     requires { 4 * k + 4 ≤ length b.now }
     ensures { (result ≡ not (is_nan (float_in (words b.now) k))) × (result ≡ true → put_words k (float_words (float_in (words b.now) k)) b.now ≡ b.now) }

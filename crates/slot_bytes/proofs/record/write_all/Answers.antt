@@ -1,6 +1,6 @@
 -- `record::write_all` meets its contract.
 use Rattle.std.proofs.Common.{arith, rules, ap, ℕ, ◌+◌, ◌*◌}
-use Rattle.slot_bytes.proofs.Little.{room, written_begin, written_turn, written_end, each_more, each_all}
+use Rattle.slot_bytes.proofs.Little.{room, written_begin, written_turn, each_more}
 use Rattle.slot_bytes.proofs.record.write_all.Goals as goal
 
 pub loop-i-init : goal.loop-i-init
@@ -16,6 +16,3 @@ loop-i-preserved g c =
     let r = room m.WORDS i g.row.N (omega arith) in
     let h = c.requires in
     (v.0, written_turn k m.WORDS g.met.T.Record.sized (k + c.WORDS.result * i) _ v.1 (omega arith) c.write.ensures.0 ej (omega arith), each_more m.is_f32 c.args.a i _ (omega arith) v.2 c.write.ensures.1)
-
-pub returns : goal.returns
-returns g c = let v = c.loop-i.invariant in (written_end c.args.k v.1 (omega arith), record { many = v.0; all = each_all g.T.Record.is_f32 c.args.a c.loop-i.i (omega arith) v.2 })
