@@ -25,6 +25,7 @@ pub struct Rendered {
 }
 
 // A slot is opened with a voice of the kind, and its lines are cleared. A caller may hand any number for a kind, and the table tells.
+#[tactic(auto, using(crate::proofs::Accepted::taken, crate::proofs::Moves::accepted_left))]
 pub fn open(bank: Bank, lines: &mut [f32], slot: usize, kind: u32, sample_rate_hz: f32) -> Opened
     ensures { (w : ℕ) → left_of (call_def (record { bank = bank; word = w; mem = lines.old }) (record { slot = slot; act = opening kind sample_rate_hz }))
         ≡ record { answer = result.answer; after = record { bank = result.bank; word = w; mem = lines.new }; bufs = lent (opening kind sample_rate_hz) } }
@@ -46,6 +47,7 @@ pub fn open(bank: Bank, lines: &mut [f32], slot: usize, kind: u32, sample_rate_h
 }
 
 // A string slot is reset, and its lines are cleared.
+#[tactic(auto, using(crate::proofs::Accepted::taken, crate::proofs::Moves::accepted_left))]
 pub fn reset(bank: Bank, lines: &mut [f32], slot: usize) -> Opened
     ensures { (w : ℕ) → left_of (call_def (record { bank = bank; word = w; mem = lines.old }) (record { slot = slot; act = reset }))
         ≡ record { answer = result.answer; after = record { bank = result.bank; word = w; mem = lines.new }; bufs = lent reset } }
@@ -69,6 +71,7 @@ pub fn reset(bank: Bank, lines: &mut [f32], slot: usize) -> Opened
 }
 
 // A block of a slot's voice into the buffers.
+#[tactic(auto, using(crate::proofs::Accepted::taken, crate::proofs::Moves::accepted_left))]
 pub fn render(
     bank: Bank,
     lines: &mut [f32],

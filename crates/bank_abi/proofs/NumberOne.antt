@@ -2,9 +2,9 @@
 use mathlib.Core.Path.{◌≡◌, refl, sym, ◌∙◌, ap}
 use mathlib.Core.Bool.{Bool, true, false, ◌||◌}
 use mathlib.Core.List.{List, [], ◌∷◌, map}
-use Prim.Native.Nat.{ℕ, ◌-◌}
+use Prim.Native.Nat.{ℕ}
 use Rattle.std.specs.List.{list_any}
-use Rattle.slots.specs.Table.{bad_slot, bad_slots, bad}
+use Rattle.slots.specs.Table.{bad_slot, bad_slots}
 use Rattle.slot_bytes.specs.Layout.{decode_slot}
 use Rattle.bank_abi.specs.Crossing.{bad_flag, bad_flags}
 

@@ -16,6 +16,7 @@ use noise::excitation::Knobs;
 use slots::answers::Reason;
 
 // The length of a bank in bytes.
+#[tactic(auto, using(crate::proofs::Zeros::fresh_zeros))]
 #[unsafe(no_mangle)]
 pub extern "C" fn bleidhvan_bank_bytes() -> usize
     ensures { result ≡ length (encode_bank fresh) }
@@ -24,7 +25,7 @@ pub extern "C" fn bleidhvan_bank_bytes() -> usize
 }
 
 // The bytes become a fresh bank, every slot of it empty; bytes of another length stay as they are, and the answer is 1.
-#[tactic(auto, unfolding(crate::specs::Crossing::fresh_def))]
+#[tactic(auto, unfolding(crate::specs::Crossing::fresh_def), using(crate::proofs::Zeros::made_fresh))]
 #[unsafe(no_mangle)]
 pub extern "C" fn bleidhvan_fresh(bytes: &mut [u8]) -> u32
     ensures { (result, bytes.new) ≡ fresh_def bytes.old }

@@ -38,6 +38,7 @@ pub fn bad(bytes: &[u8], lines: &[f32]) -> bool
 }
 
 // The kind of a slot of a bank; where there is no such slot, 0.
+#[tactic(auto, unfolding(slot_bytes::specs::Layout::decode_slot, slot_bytes::specs::Layout::slot_in), using(slot_bytes::proofs::Parts::slot_of, slot_bytes::proofs::Parts::slot_none))]
 pub fn kind_at(bytes: &[u8], slot: usize) -> u32
     ensures { length bytes.now ≡ 3144 → result ≡ (slot_at (decode_bank bytes.now) slot).kind }
 {

@@ -48,6 +48,7 @@ fn render_string(
 }
 
 // A modal voice's render: its slot is decoded whole, the string's words being few beside its own.
+#[tactic(auto, using(crate::proofs::Crosses::wrote))]
 fn render_modal(
     around: bool,
     bytes: &mut [u8],

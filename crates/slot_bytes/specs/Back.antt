@@ -6,7 +6,7 @@ use Rattle.utils.specs.declared.filter.Svf.{Svf}
 use Rattle.utils.specs.declared.filter.DcBlocker.{DcBlocker}
 use Rattle.modes.specs.declared.resonator.ResonatorSvf.{ResonatorSvf}
 use Rattle.modes.specs.declared.resonator.Batch.{Batch}
-use Rattle.slot_bytes.specs.Layout.{F32, SvfF32, DcF32, ModeF32, BatchF32, bits, float_in, svf_in, dc_in, mode_in, batch_in, float_words, svf_words, dc_words, mode_words, batch_words}
+use Rattle.slot_bytes.specs.Layout.{F32, SvfF32, DcF32, ModeF32, BatchF32, float_in, svf_in, dc_in, mode_in, batch_in, float_words, svf_words, dc_words, mode_words, batch_words}
 
 pub float_sized : (x : Float) → length (float_words x) ≡ 1
 unfolding float_words

@@ -28,6 +28,7 @@ fn fits(lines: usize, temp: usize, temp_2: usize, out: usize, aux: usize) -> boo
 
 // A new string voice renders the same buffers over and over; gives the generator's word after them.
 // Lines and buffers of other sizes than a voice's are left alone. Knobs and buffers go one by one, as C passes them.
+#[tactic(auto, using(crate::proofs::Strings::refused))]
 #[unsafe(no_mangle)]
 pub extern "C" fn strings_render(
     sample_rate_hz: f32,
@@ -88,6 +89,7 @@ pub extern "C" fn strings_render(
 }
 
 // The same of a new modal voice. A generic loop for both would need a trait with a law of what a block leaves, with lines for one voice and none for the other.
+#[tactic(auto, using(crate::proofs::Modals::refused))]
 #[unsafe(no_mangle)]
 pub extern "C" fn modals_render(
     sustain: bool,

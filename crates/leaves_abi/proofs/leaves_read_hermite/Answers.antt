@@ -2,16 +2,10 @@
 use mathlib.Core.Path.{ap}
 use native.Mathlib.Omega.{arith}
 use lib.Ieee.{Float, nan}
-use borrow.Author.Tests.{lt-ltb, le-ltb, le-leb, lt-leb}
+use borrow.Author.Tests.{le-ltb, lt-leb}
 use Rattle.ground.specs.Part.{part}
 use Rattle.ground.proofs.Frames.{frames_begin, scan_turn, scan_end}
 use Rattle.leaves_abi.proofs.leaves_read_hermite.Goals as goal
-
-pub returns-then-line-lt1024 : goal.returns-then-line-lt1024
-returns-then-line-lt1024 c = rw (lt-ltb _ _ c.if-line-lt1024.true)
-
-pub returns-then-write_ptr-ge1024 : goal.returns-then-write_ptr-ge1024
-returns-then-write_ptr-ge1024 c = rw (le-ltb _ _ c.if-line-lt1024.false, le-leb _ _ c.if-write_ptr-ge1024.true)
 
 pub loop-i-init : goal.loop-i-init
 loop-i-init c = frames_begin

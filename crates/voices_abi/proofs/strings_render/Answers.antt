@@ -6,13 +6,8 @@ use native.Mathlib.Omega.{arith}
 use Rattle.ground.proofs.Draw.{run_then}
 use Rattle.string_voice.specs.StringVoice.{render_of}
 use Rattle.voices_abi.proofs.Blocks.{begin, turn}
-use Rattle.voices_abi.proofs.Strings.{sized_again, opened_sized, opened_is, refused, ended}
+use Rattle.voices_abi.proofs.Strings.{sized_again, opened_sized, opened_is, ended}
 use Rattle.voices_abi.proofs.strings_render.Goals as goal
-
-pub returns-then-not-fits : goal.returns-then-not-fits
-returns-then-not-fits c =
-    let a = c.args in
-    refused a.sample_rate_hz _ _ a.lines.now a.temp.now a.temp_2.now a.out.now a.aux.now a.word (sym c.fits.ensures ∙ c.if-not-fits.true)
 
 pub loop-init : goal.loop-init
 loop-init c =
@@ -22,9 +17,6 @@ loop-init c =
           (opened_sized a.lines.now a.temp.now a.temp_2.now a.out.now a.aux.now (sym c.fits.ensures ∙ c.if-not-fits.false) a.sample_rate_hz)),
       record { temp = refl; temp2 = refl; out = refl; aux = refl },
     )
-
-pub render-r-requires : goal.render-r-requires
-render-r-requires c = let d = c.loop.invariant.0.kept in (d.good, omega (arith, d.out, d.small), record { temp2_is = omega (arith, d.temp, d.temp2); out_is = omega (arith, d.temp, d.out); aux_is = omega (arith, d.temp, d.aux) })
 
 pub loop-preserved : goal.loop-preserved
 loop-preserved c =

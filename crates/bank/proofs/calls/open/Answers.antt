@@ -3,7 +3,7 @@ use mathlib.Core.Path.{refl}
 use Rattle.slots.specs.Slots.{slot_at}
 use Rattle.slots.specs.Calls.{opening}
 use Rattle.bank.proofs.Accepted.{taken, asked}
-use Rattle.bank.proofs.Moves.{decided, refused_left, accepted_left}
+use Rattle.bank.proofs.Moves.{decided, refused_left}
 use Rattle.bank.proofs.calls.open.Goals as goal
 
 pub open-x-requires : goal.open-x-requires
@@ -22,9 +22,3 @@ pub returns-in-Err : goal.returns-in-Err
 returns-in-Err c = λ w.
     let a = c.args in
     refused_left (record { bank = a.bank; word = w; mem = a.lines.now }) (record { slot = a.slot; act = opening a.kind a.sample_rate_hz }) c.in-Err.reason (decided (record { slot = a.slot; act = opening a.kind a.sample_rate_hz }) (c.check_open.ensures (slot_at a.bank a.slot).kind) c.bad-bad.ensures refl c.in-Err.is)
-
-pub returns-in-Ok : goal.returns-in-Ok
-returns-in-Ok c = λ w.
-    let a = c.args in
-    let t = taken a.bank a.lines.now (record { slot = a.slot; act = opening a.kind a.sample_rate_hz }) (c.check_open.ensures (slot_at a.bank a.slot).kind) c.bad-bad.ensures refl c.in-Ok.is in
-    accepted_left (record { bank = a.bank; word = w; mem = a.lines.now }) (record { slot = a.slot; act = opening a.kind a.sample_rate_hz }) (slot_at a.bank a.slot) c.with_slot.result _ t.word refl (c.open-x.ensures _ w) c.with_slot.ensures

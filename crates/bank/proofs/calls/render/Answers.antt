@@ -3,7 +3,7 @@ use Rattle.noise.specs.Buffers.{held}
 use Rattle.slots.specs.Slots.{slot_at}
 use Rattle.slots.specs.Calls.{Bufs, render}
 use Rattle.bank.proofs.Accepted.{taken, ready, alike_lent}
-use Rattle.bank.proofs.Moves.{decided, refused_left, accepted_left}
+use Rattle.bank.proofs.Moves.{decided, refused_left}
 use Rattle.bank.proofs.calls.render.Goals as goal
 
 pub slot_at-x-requires : goal.slot_at-x-requires
@@ -29,9 +29,3 @@ pub returns-in-Err-clause-left : goal.returns-in-Err-clause-left
 returns-in-Err-clause-left c =
     let a = c.args in
     refused_left (record { bank = a.bank; word = a.word; mem = a.lines.now }) (record { slot = a.slot; act = render a.k (held a.b.now) }) c.in-Err.reason (decided (record { slot = a.slot; act = render a.k (held a.b.now) }) c.check_lent.ensures c.bad-bad.ensures c.kind_at-held.ensures c.in-Err.is)
-
-pub returns-in-Ok-clause-left : goal.returns-in-Ok-clause-left
-returns-in-Ok-clause-left c =
-    let a = c.args in
-    let t = taken a.bank a.lines.now (record { slot = a.slot; act = render a.k (held a.b.now) }) c.check_lent.ensures c.bad-bad.ensures c.kind_at-held.ensures c.in-Ok.is in
-    accepted_left (record { bank = a.bank; word = a.word; mem = a.lines.now }) (record { slot = a.slot; act = render a.k (held a.b.now) }) c.slot_at-x.result c.with_slot-after.result _ t.word c.slot_at-x.ensures c.render-r.ensures.moved c.with_slot-after.ensures

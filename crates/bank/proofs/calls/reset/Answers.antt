@@ -1,7 +1,7 @@
 -- `calls::reset` meets its contract: the table decides.
 use Rattle.slots.specs.Calls.{reset}
 use Rattle.bank.proofs.Accepted.{taken}
-use Rattle.bank.proofs.Moves.{decided, refused_left, accepted_left}
+use Rattle.bank.proofs.Moves.{decided, refused_left}
 use Rattle.bank.proofs.calls.reset.Goals as goal
 
 pub slot_at-x-requires : goal.slot_at-x-requires
@@ -24,9 +24,3 @@ pub returns-in-Err : goal.returns-in-Err
 returns-in-Err c = λ w.
     let a = c.args in
     refused_left (record { bank = a.bank; word = w; mem = a.lines.now }) (record { slot = a.slot; act = reset }) c.in-Err.reason (decided (record { slot = a.slot; act = reset }) c.check_reset.ensures c.bad-bad.ensures c.kind_at-held.ensures c.in-Err.is)
-
-pub returns-in-Ok : goal.returns-in-Ok
-returns-in-Ok c = λ w.
-    let a = c.args in
-    let t = taken a.bank a.lines.now (record { slot = a.slot; act = reset }) c.check_reset.ensures c.bad-bad.ensures c.kind_at-held.ensures c.in-Ok.is in
-    accepted_left (record { bank = a.bank; word = w; mem = a.lines.now }) (record { slot = a.slot; act = reset }) c.slot_at-x.result c.with_slot.result _ t.word c.slot_at-x.ensures (c.reset-y.ensures w) c.with_slot.ensures

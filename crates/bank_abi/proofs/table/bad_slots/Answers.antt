@@ -1,6 +1,5 @@
 -- `table::bad_slots` meets its contract: the call's result is the test of some slot's bytes, and so is the definition.
-use Rattle.std.proofs.Common.{rules, tests, ◌≡◌, ◌∙◌, ◌||◌, List, ℕ}
-use Rattle.std.specs.List.{list_any}
+use Rattle.std.proofs.Common.{rules, tests, ◌∙◌, ◌||◌}
 use Rattle.std.proofs.lemmas.Iterator.{YieldsList-from_slice}
 use Rattle.std.proofs.lemmas.Iterator.Search.{any_from_yields_List}
 use Rattle.slots.specs.Table.{bad_slot}

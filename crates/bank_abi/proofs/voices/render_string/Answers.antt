@@ -7,9 +7,6 @@ use Rattle.slot_bytes.specs.Layout.{decode_bank}
 use Rattle.bank_abi.proofs.Crosses.{wrote}
 use Rattle.bank_abi.proofs.voices.render_string.Goals as goal
 
-pub render_string-r-requires : goal.render_string-r-requires
-render_string-r-requires c = let p = c.requires in (rw c.string_nth-voice.ensures p.1.voice, p.2)
-
 pub returns-clause-wrote : goal.returns-clause-wrote
 returns-clause-wrote c =
     let a = c.args in
