@@ -25,7 +25,8 @@ fn tail_frame(k: &Modes, states: &mut States, row: &mut [f32; 8], x: f32)
     put_row(&bands, row);
 }
 
-// All samples through the last 8 modes, a row for each.
+// All samples through the last 8 modes, a row for each of up to 64: an array of that many would ask a full block.
+// k is read by both passes and states are written by both: a struct of them, with the samples, would be lent to each in a way of its own.
 fn run_tail(k: &Modes, states: &mut States, in_: &[f32], rows: &mut [[f32; 8]; 64])
     requires { length in_.now ≤ 64 }
     ensures { (states.new ≡ over (tail_state k.now) states.old in_.now) × Rows k.now states.old in_.now rows.new }

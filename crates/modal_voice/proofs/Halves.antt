@@ -1,15 +1,13 @@
 -- What the calls of the voice's functions ensure, put together: laws over plain values. Assumes nothing.
 use mathlib.Core.Path.{◌≡◌, refl, sym, ◌∙◌, ap}
-use mathlib.Core.Bool.{Bool, true, false, ◌||◌, cond}
+use mathlib.Core.Bool.{Bool, true, false, ◌||◌}
 use mathlib.Core.List.{List, [], ◌∷◌}
 use Prim.Native.Nat.{ℕ}
 use native.Mathlib.Omega.{arith}
 use lib.ListN.{length, set}
 use lib.Ieee.{Float}
-use Rattle.ground.specs.F32.{◌⊗◌, ◌⊖◌, c0·499, c0·5, c1, c2, c4, c36, c60}
+use Rattle.ground.specs.F32.{c1}
 use Rattle.ground.specs.Draw.{Draw, ret, run, counted}
-use Rattle.ground.specs.Floats.{min_f}
-use Rattle.utils.specs.Units.{semitones_to_ratio}
 use Rattle.ground.proofs.Draw.{run_then, counted_then}
 use Rattle.noise.specs.declared.excitation.Knobs.{Knobs}
 use Rattle.noise.specs.declared.excitation.Counts.{Counts}
@@ -20,11 +18,6 @@ use Rattle.modal_voice.specs.declared.modal_voice.ModalVoice.{ModalVoice}
 use Rattle.modes.specs.Resonator.{mode_of, low_block, process_of}
 use Rattle.modal_voice.specs.ModalVoice.{cutoff_for, resonance_for, strike_of, clicked, excitation, held_after, excitation_words, excitation_counts, excite_of, Sounded, sound_of, render_of}
 use Rattle.modal_voice.proofs.Excitations.{excitation_draws}
-
-pub cut_off : (k : Knobs) (b range ratio f r : Float) → b ≡ raised k.accent k.brightness → range ≡ cond k.sustain c36 c60
-    → ratio ≡ semitones_to_ratio ((b ⊗ (c2 ⊖ b) ⊖ c0·5) ⊗ range) → f ≡ cond k.sustain (c4 ⊗ k.f0) (c2 ⊗ k.f0) → r ≡ min_f (f ⊗ ratio) c0·499 → r ≡ cutoff_for k
-unfolding cutoff_for
-cut_off k b range ratio f r eb er es ef e = rw (← eb, ← er, ← es, ← ef) e
 
 -- ---- the click
 module _ (k : Knobs) (held : Bool) (cutoff : Float) (temp : List Float) {quiet : List Float} (e : quiet ≡ silence temp) where

@@ -27,7 +27,7 @@ use Rattle.modal_voice.specs.declared.modal_voice.ModalVoice.{ModalVoice}
 use Rattle.modes.specs.Resonator.{mode_of, low_block}
 use Rattle.modes.specs.OnePass.{modes_for, states_of, filters_of, frame_of, one_pass}
 use Rattle.modal_voice.specs.ModalVoice.{cutoff_for, resonance_for, excitation, held_after, excitation_words, excitation_counts, render_of}
-use Rattle.modal_voice.specs.OneLoop.{Framed, frames_of, Sung, sung_of, has_same_memory, filter_of}
+use Rattle.modal_voice.specs.OneLoop.{Framed, frames_of, low_pass, Sung, sung_of, has_same_memory, filter_of}
 use Rattle.modes.proofs.OnePass.{processed}
 use Rattle.modal_voice.proofs.Halves.{excited, sounded, rendered}
 
@@ -44,12 +44,11 @@ abbrev pub same : {A : ℕ} → LowPass A → LowPass A → Bool
 same f t = has_same_memory f.svf t.svf
 
 -- the excitation filter over all frames is its memory's loop
-low_scan : {A : ℕ} (f : LowPass A) (xs ys : List Float)
-    → ◌≡◌ {A = ResonatorSvf × List Float} ((scan (fill filter_of) f xs ys).0.svf, (scan (fill filter_of) f xs ys).1) (low_block f.mode f.svf xs ys)
-unfolding low_block scan
+low_scan : {A : ℕ} (f : LowPass A) (xs ys : List Float) → scan (fill filter_of) f xs ys ≡ low_pass f xs ys
+unfolding low_pass low_block scan
 low_scan f [] ys = refl
 low_scan f (x ∷ xs) [] = refl
-low_scan f (x ∷ xs) (y ∷ ys) = ap (λ (q : ResonatorSvf × List Float). (q.0, (filter_of f x).1 ∷ q.1)) (low_scan (filter_of f x).0 xs ys)
+low_scan {A} f (x ∷ xs) (y ∷ ys) = ap (λ (q : LowPass A × List Float). (q.0, (filter_of f x).1 ∷ q.1)) (low_scan (filter_of f x).0 xs ys)
 
 -- ---- a loop over the frames of a block that filters them, and mixes what it filtered into aux
 module _ {A : ℕ} (f : LowPass A) (temp temp2 aux : List Float) where
@@ -98,11 +97,11 @@ module _ {A : ℕ} (f : LowPass A) (temp temp2 aux : List Float) where
       }
 
   pub passing_end : {n i : ℕ} {ts us : List Float} {o : Passed (LowPass A)} → Passing n i ts us o → n ≤ i
-      → (◌≡◌ {A = ResonatorSvf × List Float} (o.filter.svf, ts) (low_block f.mode f.svf temp temp2)) × (us ≡ added ts aux)
+      → (◌≡◌ {A = LowPass A × List Float} (o.filter, ts) (low_pass f temp temp2)) × (us ≡ added ts aux)
   passing_end {ts = ts} v l =
       let z = v.block in
       let e = lead_end v.lead (omega (arith, z.all, l)) in (
-        ap (λ (q : LowPass A × List Float). (q.0.svf, q.1)) e ∙ low_scan f temp temp2,
+        e ∙ low_scan f temp temp2,
         ap (λ (q : Unit {0} × List Float). q.1) (scan_end v.mixed (omega (arith, z, l))) ∙ ap (λ (q : LowPass A × List Float). added q.1 aux) (sym e),
       )
 
@@ -133,39 +132,37 @@ module _ {A : ℕ} (f : LowPass A) (m : Modes) (states : States) (temp temp2 out
       }
 
   pub underway_end : {n i : ℕ} {ts os us : List Float} {now : States} {o : Passed (LowPass A)} → Underway n i ts os us now o → n ≤ i
-      → ◌≡◌ {A = Sung} (record { filter = o.filter.svf; states = now; temp2 = ts; out = os; aux = us }) (sung_of f.mode f.svf m states temp temp2 out aux)
+      → ◌≡◌ {A = Sung A} (record { filter = o.filter; states = now; temp2 = ts; out = os; aux = us }) (sung_of f m states temp temp2 out aux)
   unfolding sung_of
   underway_end v l =
       let z = v.passing.block in
       let e = passing_end f temp temp2 aux v.passing l in
-      let ea = e.1 ∙ ap (λ (q : ResonatorSvf × List Float). added q.1 aux) e.0 in
-      let low = ap (λ (q : ResonatorSvf × List Float). q.1) (low_scan f temp temp2) in
+      let ea = e.1 ∙ ap (λ (q : LowPass A × List Float). added q.1 aux) e.0 in
+      let low = ap (λ (q : LowPass A × List Float). q.1) (low_scan f temp temp2) in
       let eo = scan_end v.sung (omega (arith, z, v.out_size, l)) ∙ ap (λ (xs : List Float). scan (frame_of m) states xs out) low in
       λ j. record { filter = (e.0 j).0; states = (eo j).0; temp2 = (e.0 j).1; out = (eo j).1; aux = ea j }
 
-module _ (k : Mode) (s : ResonatorSvf) (m : Modes) (states : States) (temp temp2 out aux : List Float) where
   -- the filter over all frames first, then all modes
-  pub sung_apart : {z : ResonatorSvf} {ts os us : List Float} {now : States} → ◌≡◌ {A = ResonatorSvf × List Float} (z, ts) (low_block k s temp temp2) → us ≡ added ts aux
+  pub sung_apart : {z : LowPass A} {ts os us : List Float} {now : States} → ◌≡◌ {A = LowPass A × List Float} (z, ts) (low_pass f temp temp2) → us ≡ added ts aux
       → ◌≡◌ {A = States × List Float} (now, os) (scan (frame_of m) states ts out)
-      → ◌≡◌ {A = Sung} (record { filter = z; states = now; temp2 = ts; out = os; aux = us }) (sung_of k s m states temp temp2 out aux)
+      → ◌≡◌ {A = Sung A} (record { filter = z; states = now; temp2 = ts; out = os; aux = us }) (sung_of f m states temp temp2 out aux)
   unfolding sung_of
   sung_apart ef ea eo =
-      let fo = eo ∙ ap (λ (q : ResonatorSvf × List Float). scan (frame_of m) states q.1 out) ef in
-      let fa = ea ∙ ap (λ (q : ResonatorSvf × List Float). added q.1 aux) ef in
+      let fo = eo ∙ ap (λ (q : LowPass A × List Float). scan (frame_of m) states q.1 out) ef in
+      let fa = ea ∙ ap (λ (q : LowPass A × List Float). added q.1 aux) ef in
       λ j. record { filter = (ef j).0; states = (fo j).0; temp2 = (ef j).1; out = (fo j).1; aux = fa j }
 
--- the same with what the modes keep in batches
-pub all_frames : (k : Mode) (s : ResonatorSvf) (m : Modes) (fs : List Batch) (temp temp2 out aux : List Float)
-    {z : ResonatorSvf} {u now : States} {temp2' out' aux' : List Float} {gs : List Batch}
-    → u ≡ states_of fs
-    → ◌≡◌ {A = Sung} (record { filter = z; states = now; temp2 = temp2'; out = out'; aux = aux' }) (sung_of k s m u temp temp2 out aux)
-    → gs ≡ filters_of now
-    → ◌≡◌ {A = Framed} (record { filter = z; mode_filters = gs; temp2 = temp2'; out = out'; aux = aux' }) (frames_of k s m fs temp temp2 out aux)
-unfolding frames_of one_pass sung_of
-all_frames k s m fs temp temp2 out aux es eg ef =
-    let e = eg ∙ ap (λ (v : States). sung_of k s m v temp temp2 out aux) es in
-    let hf = ef ∙ ap (λ (q : Sung). filters_of q.states) e in
-    λ j. record { filter = (e j).filter; mode_filters = hf j; temp2 = (e j).temp2; out = (e j).out; aux = (e j).aux }
+  -- the same with what the modes keep in batches
+  pub all_frames : (fs : List Batch) {z : LowPass A} {now : States} {temp2' out' aux' : List Float} {gs : List Batch}
+      → states ≡ states_of fs
+      → ◌≡◌ {A = Sung A} (record { filter = z; states = now; temp2 = temp2'; out = out'; aux = aux' }) (sung_of f m states temp temp2 out aux)
+      → gs ≡ filters_of now
+      → ◌≡◌ {A = Framed} (record { filter = z.svf; mode_filters = gs; temp2 = temp2'; out = out'; aux = aux' }) (frames_of f.mode f.svf m fs temp temp2 out aux)
+  unfolding frames_of one_pass sung_of low_pass
+  all_frames fs es eg ef =
+      let e = eg ∙ ap (λ (v : States). sung_of f m v temp temp2 out aux) es in
+      let hf = ef ∙ ap (λ (q : Sung A). filters_of q.states) e in
+      λ j. record { filter = (e j).filter.svf; mode_filters = hf j; temp2 = (e j).temp2; out = (e j).out; aux = (e j).aux }
 
 -- ---- what the loop leaves, as the halves leave it
 module _ (k : Mode) (s : ResonatorSvf) (m : Modes) (fs : List Batch) (temp temp2 out aux : List Float)

@@ -9,12 +9,12 @@ use Rattle.ground.specs.Frames.{scan}
 use Rattle.ground.proofs.Frames.{length_scan}
 use Rattle.noise.specs.Excitation.{add_step, added}
 use Rattle.modes.specs.declared.resonator.ResonatorSvf.{ResonatorSvf}
-use Rattle.modes.specs.declared.resonator.Mode.{Mode}
 use Rattle.modes.specs.declared.resonator.Modes.{Modes}
 use Rattle.modes.specs.declared.resonator.States.{States}
 use Rattle.modes.specs.Resonator.{low_step, low_block}
 use Rattle.modes.specs.OnePass.{frame_of}
-use Rattle.modal_voice.specs.OneLoop.{Sung, sung_of}
+use Rattle.modal_voice.specs.declared.modal_voice.LowPass.{LowPass}
+use Rattle.modal_voice.specs.OneLoop.{low_pass, Sung, sung_of}
 
 -- ---- a loop over two lists one after the other
 scan_append : {S A B : Type 0} (step : S → A → B → S × B) (s : S) (xs xs' : List A) (ys ys' : List B) → length xs ≡ length ys
@@ -49,6 +49,10 @@ module _ {X : Type 0} where
   abbrev pub put : ℕ → ℕ → List X → List X → List X
   put i e zs xs = take i xs ++ (zs ++ drop (e - i) (drop i xs))
 
+  -- a part put back as it was
+  pub put_same : (i e : ℕ) (xs : List X) → put i e (take (e - i) (drop i xs)) xs ≡ xs
+  put_same i e xs = ap (λ (zs : List X). take i xs ++ zs) (take-append-drop (e - i) (drop i xs)) ∙ take-append-drop i xs
+
   -- the part and what is behind it
   pub in_two : (i e : ℕ) (xs : List X) → i ≤ e → drop i xs ≡ take (e - i) (drop i xs) ++ drop e xs
   in_two i e xs l =
@@ -82,42 +86,43 @@ module _ {X : Type 0} where
   part_size i e xs l m = omega (arith, length-take (e - i) (drop i xs), length-drop i xs, l, m)
 
 -- ---- the frames of a block
-module _ (k : Mode) (m : Modes) where
+module _ {A : ℕ} (m : Modes) where
   -- what is done, and what the frames behind it come to
-  abbrev joined : List Float → List Float → List Float → Sung → Sung
+  abbrev joined : List Float → List Float → List Float → Sung A → Sung A
   joined ts os us q =
       record { filter = q.filter; states = q.states; temp2 = ts ++ q.temp2; out = os ++ q.out; aux = us ++ q.aux }
 
   -- a block in two parts
-  sung_append : (s : ResonatorSvf) (states : States) (xs xs' ts ts' os os' us us' : List Float) → length xs ≡ length ts → length ts ≡ length os → length ts ≡ length us
-      → sung_of k s m states (xs ++ xs') (ts ++ ts') (os ++ os') (us ++ us')
-      ≡ (let p = sung_of k s m states xs ts os us in joined p.temp2 p.out p.aux (sung_of k p.filter m p.states xs' ts' os' us'))
-  unfolding sung_of low_block
-  sung_append s states xs xs' ts ts' os os' us us' h ho hu =
-      let p = scan (low_step k) s xs ts in
-      let q = scan (low_step k) p.0 xs' ts' in
-      let z = length_scan (low_step k) s xs ts in
-      let e = scan_append (low_step k) s xs xs' ts ts' h in
+  sung_append : (f : LowPass A) (states : States) (xs xs' ts ts' os os' us us' : List Float) → length xs ≡ length ts → length ts ≡ length os → length ts ≡ length us
+      → sung_of f m states (xs ++ xs') (ts ++ ts') (os ++ os') (us ++ us')
+      ≡ (let p = sung_of f m states xs ts os us in joined p.temp2 p.out p.aux (sung_of p.filter m p.states xs' ts' os' us'))
+  unfolding sung_of low_pass low_block
+  sung_append f states xs xs' ts ts' os os' us us' h ho hu =
+      let p = scan (low_step f.mode) f.svf xs ts in
+      let q = scan (low_step f.mode) p.0 xs' ts' in
+      let z = length_scan (low_step f.mode) f.svf xs ts in
+      let e = scan_append (low_step f.mode) f.svf xs xs' ts ts' h in
       let eo = ap (λ (r : ResonatorSvf × List Float). scan (frame_of m) states r.1 (os ++ os')) e ∙ scan_append (frame_of m) states p.1 q.1 os os' (z ∙ ho) in
       let ea = ap (λ (r : ResonatorSvf × List Float). added r.1 (us ++ us')) e ∙ ap (λ (r : Unit {0} × List Float). r.1) (scan_append add_step tt p.1 q.1 us us' (z ∙ hu)) in
-      λ j. record { filter = (e j).0; states = (eo j).0; temp2 = (e j).1; out = (eo j).1; aux = ea j }
+      λ j. record { filter = record { mode = f.mode; svf = (e j).0 }; states = (eo j).0; temp2 = (e j).1; out = (eo j).1; aux = ea j }
 
   -- the sizes of what it leaves
-  sung_sizes : (s : ResonatorSvf) (states : States) (xs ts os us : List Float) {z : Sung} → z ≡ sung_of k s m states xs ts os us
+  sung_sizes : (f : LowPass A) (states : States) (xs ts os us : List Float) {z : Sung A} → z ≡ sung_of f m states xs ts os us
       → (length z.temp2 ≡ length ts) × (length z.out ≡ length os) × (length z.aux ≡ length us)
-  unfolding sung_of low_block
-  sung_sizes s states xs ts os us e =
-      let p = (scan (low_step k) s xs ts).1 in (
-        ap (λ (q : Sung). length q.temp2) e ∙ length_scan (low_step k) s xs ts,
-        ap (λ (q : Sung). length q.out) e ∙ length_scan (frame_of m) states p os,
-        ap (λ (q : Sung). length q.aux) e ∙ length_scan add_step tt p us,
+  unfolding sung_of low_pass low_block
+  sung_sizes f states xs ts os us e =
+      let p = (scan (low_step f.mode) f.svf xs ts).1 in (
+        ap (λ (q : Sung A). length q.temp2) e ∙ length_scan (low_step f.mode) f.svf xs ts,
+        ap (λ (q : Sung A). length q.out) e ∙ length_scan (frame_of m) states p os,
+        ap (λ (q : Sung A). length q.aux) e ∙ length_scan add_step tt p us,
       )
 
 -- i frames of n are done: the whole is they and what the frames behind them come to
-module _ (k : Mode) (s : ResonatorSvf) (m : Modes) (states : States) (temp temp2 out aux : List Float) where
-  pub record Rest (n i : ℕ) (ts os us : List Float) (now : States) (filter : ResonatorSvf) : Type 0 where
-    pub whole : sung_of k s m states temp temp2 out aux
-        ≡ joined k m (take i ts) (take i os) (take i us) (sung_of k filter m now (drop i temp) (drop i ts) (drop i os) (drop i us))
+module _ {A : ℕ} (f : LowPass A) (m : Modes) (states : States) (temp temp2 out aux : List Float) where
+  pub record Rest (n i : ℕ) (xs ts os us : List Float) (now : States) (filter : LowPass A) : Type 0 where
+    pub whole : sung_of f m states temp temp2 out aux
+        ≡ joined m (take i ts) (take i os) (take i us) (sung_of filter m now (drop i temp) (drop i ts) (drop i os) (drop i us))
+    pub same : xs ≡ temp
     pub all : n ≡ length temp
     pub temp2_size : length ts ≡ n
     pub out_size : length os ≡ n
@@ -125,12 +130,13 @@ module _ (k : Mode) (s : ResonatorSvf) (m : Modes) (states : States) (temp temp2
     pub within : i ≤ n
     pub small : n * 4 < 2 ^ 63
 
-  pub rest_turn : {n i e : ℕ} {ts os us T O U : List Float} {now now' : States} {filter filter' : ResonatorSvf}
-      → Rest n i ts os us now filter → i ≤ e → e ≤ n
-      → ◌≡◌ {A = Sung} (record { filter = filter'; states = now'; temp2 = T; out = O; aux = U })
-      (sung_of k filter m now (take (e - i) (drop i temp)) (take (e - i) (drop i ts)) (take (e - i) (drop i os)) (take (e - i) (drop i us)))
-      → Rest n e (put i e T ts) (put i e O os) (put i e U us) now' filter'
-  rest_turn {n} {i} {e} {ts} {os} {us} {T} {O} {U} {now} {now'} {filter} {filter'} v l g c =
+  pub rest_turn : {n i e : ℕ} {xs ts os us X T O U : List Float} {now now' : States} {filter filter' : LowPass A}
+      → Rest n i xs ts os us now filter → i ≤ e → e ≤ n → X ≡ take (e - i) (drop i xs)
+      → ◌≡◌ {A = Sung A} (record { filter = filter'; states = now'; temp2 = T; out = O; aux = U })
+      (sung_of filter m now (take (e - i) (drop i xs)) (take (e - i) (drop i ts)) (take (e - i) (drop i os)) (take (e - i) (drop i us)))
+      → Rest n e (put i e X xs) (put i e T ts) (put i e O os) (put i e U us) now' filter'
+  rest_turn {n} {i} {e} {xs} {ts} {os} {us} {X} {T} {O} {U} {now = now} {now' = now'} {filter = filter} {filter' = filter'} v l g h d =
+      let c = d ∙ ap (λ (ys : List Float). sung_of filter m now (take (e - i) (drop i ys)) (take (e - i) (drop i ts)) (take (e - i) (drop i os)) (take (e - i) (drop i us))) v.same in
       let lt : e ≤ length ts = omega (arith, v.temp2_size, g) in
       let lo : e ≤ length os = omega (arith, v.out_size, g) in
       let lu : e ≤ length us = omega (arith, v.aux_size, g) in
@@ -139,16 +145,16 @@ module _ (k : Mode) (s : ResonatorSvf) (m : Modes) (states : States) (temp temp2
       let pt = part_size i e ts l lt in
       let po = part_size i e os l lo in
       let pu = part_size i e us l lu in
-      let z = sung_sizes k m filter now (take (e - i) (drop i temp)) (take (e - i) (drop i ts)) (take (e - i) (drop i os)) (take (e - i) (drop i us)) c in
+      let z = sung_sizes m filter now (take (e - i) (drop i temp)) (take (e - i) (drop i ts)) (take (e - i) (drop i os)) (take (e - i) (drop i us)) c in
       let sT = z.0 ∙ pt in
       let sO = z.1 ∙ po in
       let sU = z.2 ∙ pu in
-      let q = sung_of k filter' m now' (drop e temp) (drop e ts) (drop e os) (drop e us) in
-      let split : sung_of k filter m now (drop i temp) (drop i ts) (drop i os) (drop i us) ≡ joined k m T O U q =
-      (λ j. sung_of k filter m now (in_two i e temp l j) (in_two i e ts l j) (in_two i e os l j) (in_two i e us l j))
-      ∙ sung_append k m filter now (take (e - i) (drop i temp)) (drop e temp) (take (e - i) (drop i ts)) (drop e ts) (take (e - i) (drop i os)) (drop e os) (take (e - i) (drop i us)) (drop e us)
+      let q = sung_of filter' m now' (drop e temp) (drop e ts) (drop e os) (drop e us) in
+      let split : sung_of filter m now (drop i temp) (drop i ts) (drop i os) (drop i us) ≡ joined m T O U q =
+      (λ j. sung_of filter m now (in_two i e temp l j) (in_two i e ts l j) (in_two i e os l j) (in_two i e us l j))
+      ∙ sung_append m filter now (take (e - i) (drop i temp)) (drop e temp) (take (e - i) (drop i ts)) (drop e ts) (take (e - i) (drop i os)) (drop e os) (take (e - i) (drop i us)) (drop e us)
       (px ∙ sym pt) (pt ∙ sym po) (pt ∙ sym pu)
-      ∙ ap (λ (p : Sung). joined k m p.temp2 p.out p.aux (sung_of k p.filter m p.states (drop e temp) (drop e ts) (drop e os) (drop e us))) (sym c) in
+      ∙ ap (λ (p : Sung A). joined m p.temp2 p.out p.aux (sung_of p.filter m p.states (drop e temp) (drop e ts) (drop e os) (drop e us))) (sym c) in
       let bt = put_before i e T ts l lt sT in
       let bo = put_before i e O os l lo sO in
       let bu = put_before i e U us l lu sU in
@@ -157,7 +163,7 @@ module _ (k : Mode) (s : ResonatorSvf) (m : Modes) (states : States) (temp temp2
       let eu = put_behind i e U us l lu sU in
       record {
         whole = v.whole
-            ∙ ap (λ (p : Sung). joined k m (take i ts) (take i os) (take i us) p) split
+            ∙ ap (λ (p : Sung A). joined m (take i ts) (take i os) (take i us) p) split
             ∙ (λ j. record {
               filter = q.filter;
               states = q.states;
@@ -165,7 +171,8 @@ module _ (k : Mode) (s : ResonatorSvf) (m : Modes) (states : States) (temp temp2
               out = sym (append_assoc (take i os) O q.out) j;
               aux = sym (append_assoc (take i us) U q.aux) j;
             })
-            ∙ (λ j. joined k m (sym bt j) (sym bo j) (sym bu j) (sung_of k filter' m now' (drop e temp) (sym et j) (sym eo j) (sym eu j)));
+            ∙ (λ j. joined m (sym bt j) (sym bo j) (sym bu j) (sung_of filter' m now' (drop e temp) (sym et j) (sym eo j) (sym eu j)));
+        same = ap (λ (Y : List Float). put i e Y xs) h ∙ put_same i e xs ∙ v.same;
         all = v.all;
         temp2_size = put_size i e T ts l lt sT ∙ v.temp2_size;
         out_size = put_size i e O os l lo sO ∙ v.out_size;
@@ -175,18 +182,18 @@ module _ (k : Mode) (s : ResonatorSvf) (m : Modes) (states : States) (temp temp2
       }
 
   -- the same at an equal place
-  pub rest_at : {n i j : ℕ} {ts os us : List Float} {now : States} {filter : ResonatorSvf} → Rest n i ts os us now filter → i ≡ j → Rest n j ts os us now filter
-  rest_at {n} {ts = ts} {os = os} {us = us} {now = now} {filter = filter} v e = subst (λ (j : ℕ). Rest n j ts os us now filter) e v
+  pub rest_at : {n i j : ℕ} {xs ts os us : List Float} {now : States} {filter : LowPass A} → Rest n i xs ts os us now filter → i ≡ j → Rest n j xs ts os us now filter
+  rest_at {n} {xs = xs} {ts = ts} {os = os} {us = us} {now = now} {filter = filter} v e = subst (λ (j : ℕ). Rest n j xs ts os us now filter) e v
 
-  pub rest_end : {n i : ℕ} {ts os us : List Float} {now : States} {filter : ResonatorSvf} → Rest n i ts os us now filter → n ≤ i
-      → ◌≡◌ {A = Sung} (record { filter = filter; states = now; temp2 = ts; out = os; aux = us }) (sung_of k s m states temp temp2 out aux)
-  rest_end {n} {i} {ts} {os} {us} {now} {filter} v l =
+  pub rest_end : {n i : ℕ} {xs ts os us : List Float} {now : States} {filter : LowPass A} → Rest n i xs ts os us now filter → n ≤ i
+      → ◌≡◌ {A = Sung A} (record { filter = filter; states = now; temp2 = ts; out = os; aux = us }) (sung_of f m states temp temp2 out aux)
+  rest_end {n} {i} {xs} {ts} {os} {us} {now} {filter} v l =
       let et = drop_of_length-le ts {i = i} (omega (arith, v.temp2_size, l)) in
       let eo = drop_of_length-le os {i = i} (omega (arith, v.out_size, l)) in
       let eu = drop_of_length-le us {i = i} (omega (arith, v.aux_size, l)) in
       let ex = drop_of_length-le temp {i = i} (omega (arith, v.all, l)) in
-      let none : sung_of k filter m now (drop i temp) (drop i ts) (drop i os) (drop i us) ≡ record { filter = filter; states = now; temp2 = drop i ts; out = drop i os; aux = drop i us } =
-      (λ j. sung_of k filter m now (ex j) (et j) (eo j) (eu j)) ∙ nothing filter now ∙ (λ j. record { filter = filter; states = now; temp2 = sym et j; out = sym eo j; aux = sym eu j }) in
+      let none : sung_of filter m now (drop i temp) (drop i ts) (drop i os) (drop i us) ≡ record { filter = filter; states = now; temp2 = drop i ts; out = drop i os; aux = drop i us } =
+      (λ j. sung_of filter m now (ex j) (et j) (eo j) (eu j)) ∙ nothing filter now ∙ (λ j. record { filter = filter; states = now; temp2 = sym et j; out = sym eo j; aux = sym eu j }) in
       (λ j. record {
         filter = filter;
         states = now;
@@ -194,7 +201,7 @@ module _ (k : Mode) (s : ResonatorSvf) (m : Modes) (states : States) (temp temp2
         out = sym (take-append-drop i os) j;
         aux = sym (take-append-drop i us) j;
       })
-      ∙ sym (v.whole ∙ ap (λ (p : Sung). joined k m (take i ts) (take i os) (take i us) p) none)
+      ∙ sym (v.whole ∙ ap (λ (p : Sung A). joined m (take i ts) (take i os) (take i us) p) none)
     where
-      nothing : (f : ResonatorSvf) (a : States) → sung_of k f m a [] [] [] [] ≡ record { filter = f; states = a; temp2 = []; out = []; aux = [] }
-      nothing f a = unfold sung_of low_block scan in refl
+      nothing : (f : LowPass A) (a : States) → sung_of f m a [] [] [] [] ≡ record { filter = f; states = a; temp2 = []; out = []; aux = [] }
+      nothing f a = unfold sung_of low_pass low_block scan in refl

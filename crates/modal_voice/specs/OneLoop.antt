@@ -5,6 +5,8 @@ use Rattle.std.proofs.Common.{sym}
 use Rattle.ground.specs.Floats.{same_float}
 use Rattle.ground.specs.Frames.{scan}
 use Rattle.noise.specs.Excitation.{added}
+use Rattle.noise.specs.declared.buffers.Buffers.{Buffers}
+use Rattle.noise.specs.Buffers.{IsSame}
 use Rattle.modes.specs.declared.resonator.ResonatorSvf.{ResonatorSvf}
 use Rattle.modes.specs.declared.resonator.Batch.{Batch}
 use Rattle.modes.specs.declared.resonator.Mode.{Mode}
@@ -29,20 +31,6 @@ frames_of k s m fs temp temp2 out aux =
     let p = one_pass m fs e.1 out in
     record { filter = e.0; mode_filters = p.0; temp2 = e.1; out = p.1; aux = added e.1 aux }
 
--- the same with what the modes keep side by side
-pub record Sung : Type 0 where
-  pub filter : ResonatorSvf
-  pub states : States
-  pub temp2 : List Float
-  pub out : List Float
-  pub aux : List Float
-
-unfoldable pub sung_of : Mode → ResonatorSvf → Modes → States → List Float → List Float → List Float → List Float → Sung
-sung_of k s m states temp temp2 out aux =
-    let e = low_block k s temp temp2 in
-    let p = scan (frame_of m) states e.1 out in
-    record { filter = e.0; states = p.0; temp2 = e.1; out = p.1; aux = added e.1 aux }
-
 abbrev pub has_same_memory : ResonatorSvf → ResonatorSvf → Bool
 has_same_memory s t = same_float s.state_1 t.state_1 && same_float s.state_2 t.state_2
 
@@ -53,3 +41,27 @@ filter_of f x = let u = low_step f.mode f.svf x nan in (record { mode = f.mode; 
 -- a filter whose memory stands is the filter that it was
 pub filter_stays : {A : ℕ} (f : LowPass A) (x : Float) → (f.svf.state_1 ≡ (filter_of f x).0.svf.state_1) × (f.svf.state_2 ≡ (filter_of f x).0.svf.state_2) → (filter_of f x).0 ≡ f
 filter_stays f x e = λ i. record { mode = f.mode; svf = record { state_1 = sym e.0 i; state_2 = sym e.1 i } }
+
+-- the excitation filter over all frames, and what it gives
+unfoldable pub low_pass : {A : ℕ} → LowPass A → List Float → List Float → LowPass A × List Float
+low_pass f temp temp2 = let e = low_block f.mode f.svf temp temp2 in (record { mode = f.mode; svf = e.0 }, e.1)
+
+-- frames_of with what the modes keep side by side
+pub record Sung (A : ℕ) : Type 0 where
+  pub filter : LowPass A
+  pub states : States
+  pub temp2 : List Float
+  pub out : List Float
+  pub aux : List Float
+
+unfoldable pub sung_of : {A : ℕ} → LowPass A → Modes → States → List Float → List Float → List Float → List Float → Sung A
+sung_of f m states temp temp2 out aux =
+    let e = low_pass f temp temp2 in
+    let p = scan (frame_of m) states e.1 out in
+    record { filter = e.0; states = p.0; temp2 = e.1; out = p.1; aux = added e.1 aux }
+
+-- the filter g, the states now and the buffers c are what it makes of f, states and b: the buffers that were lent, and temp as it was
+pub record Sings {A : ℕ} (f : LowPass A) (m : Modes) (states : States) (b : Buffers) (g : LowPass A) (now : States) (c : Buffers) : Type 0 where
+  pub all : record { filter = g; states = now; temp2 = c.temp_2.now; out = c.out.now; aux = c.aux.now } ≡ sung_of f m states b.temp.now b.temp_2.now b.out.now b.aux.now
+  pub temp : c.temp.now ≡ b.temp.now
+  pub same : IsSame c b

@@ -1,20 +1,18 @@
 // Simple modal synthesis voice with a mallet exciter: click -> LPF -> resonator. With sustain the click is replaced by dust.
-ghost use Rattle.std.specs.Prelude.{◌≡◌, cond, ◌≤◌, length};
-ghost use Rattle.ground.specs.F32.{◌⊗◌, c0·7, c1·5, c2, c4, c36, c60};
+ghost use Rattle.std.specs.Prelude.{◌≡◌, ◌≤◌, length};
 ghost use Rattle.ground.specs.Draw.{ret, run, Ran};
 ghost use Rattle.noise.specs.Excitation.{Alike, added};
 ghost use Rattle.noise.specs.Buffers.{IsAlike, IsSame};
-ghost use Rattle.modes.specs.Resonator.{low_block};
 ghost use Rattle.modes.specs.OnePass.{FullStates};
-ghost use Rattle.modal_voice.specs.OneLoop.{Framed, frames_of, Sung, sung_of, has_same_memory, filter_of, filter_stays};
-ghost use Rattle.modal_voice.specs.ModalVoice.{voice_new, voice_init, cutoff_for, strike_of, clicked, excitation, held_after, excitation_words, excitation_counts, Excited, excite_of, Sounded, sound_of, After, render_of};
+ghost use Rattle.modal_voice.specs.OneLoop.{Framed, frames_of, low_pass, Sung, sung_of, Sings, has_same_memory, filter_of, filter_stays};
+ghost use Rattle.modal_voice.specs.ModalVoice.{voice_new, voice_init, cutoff_for, resonance_for, strike_of, clicked, excitation, held_after, excitation_words, excitation_counts, Excited, excite_of, Sounded, sound_of, After, render_of};
 
 use modes::resonator::{Batch, Mode, Modes, Quiet, Resonator, ResonatorSvf, States};
 use noise::ahead::{Filter, Passed};
 use noise::buffers::Buffers;
 use noise::excitation::{Counts, Knobs, Rendered};
 
-// A voice. A strike on an empty block is held for the next block that has frames.
+// A voice. A strike on an empty block is held for the next block that has frames; that one waits is all there is to know of it, so `held` is no Option.
 #[derive(Clone, Copy)]
 pub struct ModalVoice {
     pub excitation_filter: ResonatorSvf,
@@ -22,25 +20,28 @@ pub struct ModalVoice {
     pub held: bool,
 }
 
-// What the voice takes where it is sustained, and where it is struck.
-fn choose(sustain: bool, sustained: f32, struck: f32) -> f32
-    ensures { result ≡ cond sustain sustained struck }
-{
-    if sustain { sustained } else { struck }
-}
-
 // The cutoff of the excitation filter.
+#[tactic(auto, unfolding(crate::specs::ModalVoice::cutoff_for))]
 fn cutoff_for(k: Knobs) -> f32
     ensures { result ≡ cutoff_for k }
 {
     let brightness = noise::excitation::raise(k.accent, k.brightness);
-    let semitones = (brightness * (2.0 - brightness) - 0.5) * choose(k.sustain, 36.0, 60.0);
+    let range = if k.sustain { 36.0 } else { 60.0 };
+    let semitones = (brightness * (2.0 - brightness) - 0.5) * range;
     let ratio = utils::units::semitones_to_ratio(semitones);
-    let base = choose(k.sustain, 4.0 * k.f0, 2.0 * k.f0);
+    let base = if k.sustain { 4.0 * k.f0 } else { 2.0 * k.f0 };
     ground::floats::min(base * ratio, 0.499)
 }
 
+// The resonance of the excitation filter.
+fn resonance_for(k: Knobs) -> f32
+    ensures { result ≡ resonance_for k }
+{
+    if k.sustain { 0.7 } else { 1.5 }
+}
+
 // The click of a strike.
+#[tactic(auto, unfolding(crate::specs::ModalVoice::strike_of))]
 fn strike(accent: f32, damping: f32, cutoff: f32) -> f32
     ensures { result ≡ strike_of accent damping cutoff }
 {
@@ -66,6 +67,7 @@ fn fill_click(k: Knobs, held: bool, cutoff: f32, temp: &mut [f32])
 }
 
 // Dust where the voice is sustained; else the click.
+#[tactic(auto, unfolding(crate::specs::ModalVoice::excitation))]
 fn fill_excitation(k: Knobs, held: bool, cutoff: f32, temp: &mut [f32], word: u32) -> u32
     ensures { run (excitation k.sustain k held cutoff temp.old) word ≡ record { value = temp.new; word = result } }
 {
@@ -78,6 +80,7 @@ fn fill_excitation(k: Knobs, held: bool, cutoff: f32, temp: &mut [f32], word: u3
 }
 
 // Whether a strike is held after a block of n.
+#[tactic(auto, unfolding(crate::specs::ModalVoice::held_after))]
 fn held_after(k: Knobs, held: bool, n: usize) -> bool
     ensures { result ≡ held_after k held n }
 {
@@ -87,7 +90,7 @@ fn held_after(k: Knobs, held: bool, n: usize) -> bool
     held | (k.trigger & !k.sustain)
 }
 
-// The words of the excitation of n frames.
+// The words of the excitation of n frames. The flag chooses a number, and no step to run.
 fn counts_of(sustain: bool, n: usize) -> Counts
     ensures { result ≡ excitation_counts (excitation_words sustain n) }
 {
@@ -96,13 +99,6 @@ fn counts_of(sustain: bool, n: usize) -> Counts
         dust: if sustain { n } else { 0 },
         dispersion: 0,
     }
-}
-
-// Both filters after a block.
-#[derive(Clone, Copy)]
-pub struct Filtered {
-    pub filter: ResonatorSvf,
-    pub mode_filters: [Batch; 6],
 }
 
 // The excitation filter at its mode; around subnormal products at AROUND, where its memory is small.
@@ -142,6 +138,7 @@ impl<const AROUND: bool> Filter for LowPass<AROUND> {
         }
     }
 
+    // By bits: `==` takes 0.0 and -0.0 for one number, and a NaN for none. The fields are a mode's, which the impl for `Svf` has not.
     fn stands(self, after: LowPass<AROUND>) -> bool {
         ground::bits::same(self.svf.state_1, after.svf.state_1)
             && ground::bits::same(self.svf.state_2, after.svf.state_2)
@@ -149,24 +146,24 @@ impl<const AROUND: bool> Filter for LowPass<AROUND> {
 }
 
 // Each frame through all modes, around subnormal products at AROUND. The excitation filter is a frame ahead of the modes, so that neither waits for the other.
+// The filter goes by value, the modes are read, and the states and the buffers are written: one struct would be lent in one of these ways.
 fn frames_in_one<const AROUND: bool>(
-    k: Mode,
-    s: ResonatorSvf,
+    filter: LowPass<AROUND>,
     m: &Modes,
     states: &mut States,
-    temp: &[f32],
-    temp_2: &mut [f32],
-    out: &mut [f32],
-    aux: &mut [f32],
-) -> ResonatorSvf
-    requires { Alike temp.now temp_2.old out.old aux.old }
-    ensures { record { filter = result; states = states.new; temp2 = temp_2.new; out = out.new; aux = aux.new } ≡ sung_of k s m.now states.old temp.now temp_2.old out.old aux.old }
+    b: &mut Buffers,
+) -> LowPass<AROUND>
+    requires { IsAlike b.old }
+    ensures { Sings filter.entry m.now states.old b.old result states.new b.new }
 {
+    let temp = &mut *b.temp;
+    let temp_2 = &mut *b.temp_2;
+    let out = &mut *b.out;
+    let aux = &mut *b.aux;
     let mut quiet = Quiet {
         low: false,
         high: false,
     };
-    let filter = LowPass::<AROUND> { mode: k, svf: s };
     let mut ahead = Passed::first(filter, temp);
     for i in 0..temp.len() {
         let x = ahead.out;
@@ -178,21 +175,19 @@ fn frames_in_one<const AROUND: bool>(
         }
         out[i] = m.frame_at(quiet, states, x, out[i]);
     }
-    ahead.filter.svf
+    ahead.filter
 }
 
 // The excitation filter over all frames, and its mix into aux: `frames_in_one` without modes, which has no states to lend.
 fn filter_frames(
-    k: Mode,
-    s: ResonatorSvf,
+    filter: LowPass<false>,
     temp: &[f32],
     temp_2: &mut [f32],
     aux: &mut [f32],
-) -> ResonatorSvf
+) -> LowPass<false>
     requires { (length temp_2.old ≡ length temp.now) × (length aux.old ≡ length temp.now) }
-    ensures { ((result, temp_2.new) ≡ low_block k s temp.now temp_2.old) × (aux.new ≡ added temp_2.new aux.old) }
+    ensures { ((result, temp_2.new) ≡ low_pass filter temp.now temp_2.old) × (aux.new ≡ added temp_2.new aux.old) }
 {
-    let filter = LowPass::<false> { mode: k, svf: s };
     let mut passed = Passed::first(filter, temp);
     for i in 0..temp.len() {
         let given = passed.out;
@@ -200,132 +195,128 @@ fn filter_frames(
         temp_2[i] = given;
         aux[i] += given;
     }
-    passed.filter.svf
+    passed.filter
 }
 
 // At most 64 frames, the filter and each half of the modes by itself.
 fn frames_apart(
-    k: Mode,
-    s: ResonatorSvf,
+    filter: LowPass<false>,
     m: &Modes,
     states: &mut States,
-    temp: &[f32],
-    temp_2: &mut [f32],
-    out: &mut [f32],
-    aux: &mut [f32],
-) -> ResonatorSvf
-    requires { (length temp.now ≤ 64) × Alike temp.now temp_2.old out.old aux.old × FullStates states.old }
-    ensures { record { filter = result; states = states.new; temp2 = temp_2.new; out = out.new; aux = aux.new } ≡ sung_of k s m.now states.old temp.now temp_2.old out.old aux.old }
-{
-    let filter = filter_frames(k, s, temp, temp_2, aux);
-    halves::run_halves(m, states, temp_2, out);
-    filter
-}
-
-// At most 64 frames, apart where modes have died away.
-fn frames_some(
-    k: Mode,
-    s: ResonatorSvf,
-    m: &Modes,
-    states: &mut States,
-    temp: &[f32],
-    temp_2: &mut [f32],
-    out: &mut [f32],
-    aux: &mut [f32],
-) -> ResonatorSvf
-    requires { (length temp.now ≤ 64) × Alike temp.now temp_2.old out.old aux.old }
-    ensures { record { filter = result; states = states.new; temp2 = temp_2.new; out = out.new; aux = aux.new } ≡ sung_of k s m.now states.old temp.now temp_2.old out.old aux.old }
-{
-    if states.rests() {
-        return frames_apart(k, s, m, states, temp, temp_2, out, aux);
-    }
-    frames_in_one::<false>(k, s, m, states, temp, temp_2, out, aux)
-}
-
-// All frames, with subnormal products as they come.
-fn frames_plain(
-    k: Mode,
-    s: ResonatorSvf,
-    m: &Modes,
-    states: &mut States,
-    temp: &[f32],
-    temp_2: &mut [f32],
-    out: &mut [f32],
-    aux: &mut [f32],
-) -> ResonatorSvf
-    requires { Alike temp.now temp_2.old out.old aux.old }
-    ensures { record { filter = result; states = states.new; temp2 = temp_2.new; out = out.new; aux = aux.new } ≡ sung_of k s m.now states.old temp.now temp_2.old out.old aux.old }
-{
-    let n = temp.len();
-    let mut kept = s;
-    for i in (0..n).step_by(64) {
-        let end = n.min(i + 64);
-        kept = frames_some(
-            k,
-            kept,
-            m,
-            states,
-            &temp[i..end],
-            &mut temp_2[i..end],
-            &mut out[i..end],
-            &mut aux[i..end],
-        );
-    }
-    kept
-}
-
-// Both halves' loops as one.
-fn sound_frames(
-    around: bool,
-    k: Mode,
-    s: ResonatorSvf,
-    m: &Modes,
-    mode_filters: [Batch; 6],
     b: &mut Buffers,
-) -> Filtered
-    requires { IsAlike b.old }
-    ensures all { record { filter = result.filter; mode_filters = result.mode_filters; temp2 = b.new.temp_2.now; out = b.new.out.now; aux = b.new.aux.now } ≡ frames_of k s m.now mode_filters b.old.temp.now b.old.temp_2.now b.old.out.now b.old.aux.now }
-    ensures temp { b.new.temp.now ≡ b.old.temp.now }
-    ensures same { IsSame b.new b.old }
+) -> LowPass<false>
+    requires { (length b.old.temp.now ≤ 64) × IsAlike b.old × FullStates states.old }
+    ensures { Sings filter m.now states.old b.old result states.new b.new }
 {
     let temp = &mut *b.temp;
     let temp_2 = &mut *b.temp_2;
     let out = &mut *b.out;
     let aux = &mut *b.aux;
-    let mut states = States::from(mode_filters);
-    let filter = if around {
-        frames_in_one::<true>(k, s, m, &mut states, temp, temp_2, out, aux)
-    } else {
-        frames_plain(k, s, m, &mut states, temp, temp_2, out, aux)
+    let after = filter_frames(filter, temp, temp_2, aux);
+    halves::run_halves(m, states, temp_2, out);
+    after
+}
+
+// At most 64 frames, apart where modes have died away. It takes each buffer by itself: of parts that a caller puts into a `Buffers` a proof knows the lengths alone.
+fn frames_some(
+    filter: LowPass<false>,
+    m: &Modes,
+    states: &mut States,
+    temp: &mut [f32],
+    temp_2: &mut [f32],
+    out: &mut [f32],
+    aux: &mut [f32],
+) -> LowPass<false>
+    requires { (length temp.old ≤ 64) × Alike temp.old temp_2.old out.old aux.old }
+    ensures all { record { filter = result; states = states.new; temp2 = temp_2.new; out = out.new; aux = aux.new } ≡ sung_of filter m.now states.old temp.old temp_2.old out.old aux.old }
+    ensures temp { temp.new ≡ temp.old }
+{
+    let mut b = Buffers {
+        temp,
+        temp_2,
+        out,
+        aux,
     };
-    Filtered {
-        filter,
-        mode_filters: states.into(),
+    if states.rests() {
+        frames_apart(filter, m, states, &mut b)
+    } else {
+        frames_in_one(filter, m, states, &mut b)
     }
 }
 
+// All frames, with subnormal products as they come.
+fn frames_plain(
+    filter: LowPass<false>,
+    m: &Modes,
+    states: &mut States,
+    b: &mut Buffers,
+) -> LowPass<false>
+    requires { IsAlike b.old }
+    ensures { Sings filter m.now states.old b.old result states.new b.new }
+{
+    let temp = &mut *b.temp;
+    let temp_2 = &mut *b.temp_2;
+    let out = &mut *b.out;
+    let aux = &mut *b.aux;
+    let n = temp.len();
+    let mut after = filter;
+    for i in (0..n).step_by(64) {
+        let end = n.min(i + 64);
+        after = frames_some(
+            after,
+            m,
+            states,
+            &mut temp[i..end],
+            &mut temp_2[i..end],
+            &mut out[i..end],
+            &mut aux[i..end],
+        );
+    }
+    after
+}
+
+// Both halves' loops as one. Whether `around` is known at run time alone, by the caller in C: it chooses between the two instances.
+fn sound_frames(
+    around: bool,
+    mode: Mode,
+    svf: ResonatorSvf,
+    m: &Modes,
+    mode_filters: [Batch; 6],
+    b: &mut Buffers,
+) -> (ResonatorSvf, [Batch; 6])
+    requires { IsAlike b.old }
+    ensures all { record { filter = result.0; mode_filters = result.1; temp2 = b.new.temp_2.now; out = b.new.out.now; aux = b.new.aux.now } ≡ frames_of mode svf m.now mode_filters b.old.temp.now b.old.temp_2.now b.old.out.now b.old.aux.now }
+    ensures temp { b.new.temp.now ≡ b.old.temp.now }
+    ensures same { IsSame b.new b.old }
+{
+    let mut states = States::from(mode_filters);
+    let after = if around {
+        frames_in_one(LowPass::<true> { mode, svf }, m, &mut states, b).svf
+    } else {
+        frames_plain(LowPass { mode, svf }, m, &mut states, b).svf
+    };
+    (after, states.into())
+}
+
 impl ModalVoice {
+    #[tactic(auto, unfolding(crate::specs::ModalVoice::voice_new))]
     pub fn new() -> ModalVoice
         ensures { result ≡ voice_new }
     {
-        let excitation_filter = ResonatorSvf::new();
-        let resonator = Resonator::new();
         ModalVoice {
-            excitation_filter,
-            resonator,
+            excitation_filter: ResonatorSvf::new(),
+            resonator: Resonator::new(),
             held: false,
         }
     }
 
+    #[tactic(auto, unfolding(crate::specs::ModalVoice::voice_init))]
     pub fn init(self) -> ModalVoice
         ensures { result ≡ voice_init self }
     {
-        let excitation_filter = ResonatorSvf::new();
-        let before = self.resonator;
-        let resonator = before.init(0.015);
         ModalVoice {
-            excitation_filter,
-            resonator,
+            excitation_filter: ResonatorSvf::new(),
+            resonator: self.resonator.init(0.015),
             held: false,
         }
     }
@@ -345,13 +336,11 @@ impl ModalVoice {
         } }
     {
         let cutoff = cutoff_for(k);
-        let q = choose(k.sustain, 0.7, 1.5);
-        let before = self.held;
-        let held = held_after(k, before, temp.len());
+        let held = held_after(k, self.held, temp.len());
         let counts = counts_of(k.sustain, temp.len());
-        let drawn = fill_excitation(k, before, cutoff, temp, word);
+        let drawn = fill_excitation(k, self.held, cutoff, temp, word);
         let filter = self.excitation_filter;
-        let excitation_filter = filter.process_low(cutoff, q, 1.0, temp, temp_2);
+        let excitation_filter = filter.process_low(cutoff, resonance_for(k), 1.0, temp, temp_2);
         noise::excitation::add_into(temp_2, aux);
         let voice = ModalVoice {
             excitation_filter,
@@ -393,32 +382,34 @@ impl ModalVoice {
         ensures same { IsSame b.new b.old }
     {
         let cutoff = cutoff_for(k);
-        let q = choose(k.sustain, 0.7, 1.5);
-        let before = self.held;
-        let held = held_after(k, before, b.temp.len());
+        let held = held_after(k, self.held, b.temp.len());
         let counts = counts_of(k.sustain, b.temp.len());
-        let drawn = fill_excitation(k, before, cutoff, b.temp, word);
-        let mode = modes::resonator::mode_of(cutoff, q, 1.0);
+        let drawn = fill_excitation(k, self.held, cutoff, b.temp, word);
+        let mode = modes::resonator::mode_of(cutoff, resonance_for(k), 1.0);
         let brightness = noise::excitation::raise(k.accent, k.brightness);
         let damping = noise::excitation::raise(k.accent, k.damping);
         let resonator = self.resonator;
         let amplitude = resonator.mode_amplitude;
         let modes = modes::resonator::modes_for(amplitude, k.f0, k.structure, brightness, damping);
-        let filter = self.excitation_filter;
-        let before_filters = resonator.mode_filters;
-        let s = sound_frames(around, mode, filter, &modes, before_filters, b);
-        let mode_filters = s.mode_filters;
+        let svf = self.excitation_filter;
+        let (excitation_filter, mode_filters) = sound_frames(
+            around,
+            mode,
+            svf,
+            &modes,
+            resonator.mode_filters,
+            b,
+        );
         let resonator = Resonator {
             mode_filters,
             ..resonator
         };
-        let voice = ModalVoice {
-            excitation_filter: s.filter,
-            resonator,
-            held,
-        };
         Rendered {
-            voice,
+            voice: ModalVoice {
+                excitation_filter,
+                resonator,
+                held,
+            },
             word: drawn,
             counts,
         }

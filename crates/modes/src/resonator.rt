@@ -57,7 +57,7 @@ pub struct Partial {
     pub q: f32,
 }
 
-// mode_f, mode_q and mode_a of all modes.
+// mode_f, mode_q and mode_a of all modes: three arrays, as the Rust has them.
 #[derive(Clone, Copy)]
 pub struct Tuned {
     pub f: [f32; 24],
@@ -66,6 +66,7 @@ pub struct Tuned {
 }
 
 // The coefficients of all modes, each at its place: those of the batches 0 to 3 side by side, so that a frame adds four batches at once, and those of 4 and 5 behind them in order.
+// Each coefficient has an array to itself, so that the processor takes four modes at once.
 #[derive(Clone, Copy)]
 pub struct Modes {
     pub g: [f32; 24],
@@ -74,14 +75,14 @@ pub struct Modes {
     pub gain: [f32; 24],
 }
 
-// What all modes keep, at the same places.
+// What all modes keep, at the same places, and in arrays for the same reason.
 #[derive(Clone, Copy)]
 pub struct States {
     pub state_1: [f32; 24],
     pub state_2: [f32; 24],
 }
 
-// Whether small modes are among the first 16 places, and among the last 8.
+// Whether small modes are among the first 16 places, and among the last 8: two answers, and neither says that a value is absent.
 #[derive(Clone, Copy)]
 pub struct Quiet {
     pub low: bool,
@@ -194,6 +195,7 @@ fn shrinkage(stiffness: f32) -> f32
     if stiffness < 0.0 { 0.93 } else { 0.98 }
 }
 
+// The next mode's. Every field moves on, so that none is copied.
 fn next_partial(f0: f32, q_loss: f32, shrinkage: f32, p: Partial) -> Partial
     requires { shrunk p.stiffness ≡ p.stiffness ⊗ shrinkage }
     ensures { result ≡ next_of f0 q_loss p }
@@ -240,22 +242,24 @@ fn q_loss_of(structure: f32, brightness: f32, damping: f32) -> f32
 fn tune(mode_amplitude: [f32; 24], f0: f32, q_loss: f32, first: Partial) -> Tuned
     ensures { result ≡ tuned mode_amplitude f0 q_loss first }
 {
-    let mut f = [0.0f32; 24];
-    let mut q = [0.0f32; 24];
-    let mut a = [0.0f32; 24];
+    let mut t = Tuned {
+        f: [0.0; 24],
+        q: [0.0; 24],
+        a: [0.0; 24],
+    };
     let factor = shrinkage(first.stiffness);
     let mut p = first;
     for i in 0..24 {
         let mode_frequency = cap(p.harmonic * p.stretch_factor);
-        f[i] = mode_frequency;
-        q[i] = 1.0 + mode_frequency * p.q;
-        a[i] = mode_amplitude[i] * (1.0 - mode_frequency * 2.0);
+        t.f[i] = mode_frequency;
+        t.q[i] = 1.0 + mode_frequency * p.q;
+        t.a[i] = mode_amplitude[i] * (1.0 - mode_frequency * 2.0);
         p = next_partial(f0, q_loss, factor, p);
     }
-    Tuned { f, q, a }
+    t
 }
 
-// The number of the mode at a place.
+// The number of the mode at a place. A place is a counter of a loop up to 24, which a type of its own would wrap and unwrap at each turn.
 fn mode_here(t: usize) -> usize
     requires { t < 24 }
     ensures { result ≡ mode_here t }
@@ -321,7 +325,7 @@ fn place_apart(b: usize) -> usize
 }
 
 impl States {
-    // What the mode at a place keeps.
+    // What the mode at a place keeps: a number of each array, which no struct has together.
     fn mode_at(&self, t: usize) -> ResonatorSvf
         requires { t < 24 }
         ensures { result ≡ state_at self.now t }
@@ -342,6 +346,7 @@ impl States {
     }
 
     // A batch's states to their places, the first of them and each `apart` from the one before. Its modes are fields by name, which no loop goes over.
+    // The two numbers stand in the rows of two tables below, where a struct of them would be spelled out in each row.
     fn put_batch(&mut self, batch: Batch, first: usize, apart: usize)
         requires { first + 3 * apart < 24 }
         ensures { self.new ≡ put_batch batch first apart self.old }
@@ -446,7 +451,7 @@ impl From<States> for [Batch; 6] {
 // ---- a frame
 
 impl Modes {
-    // The coefficients of the mode at a place.
+    // The coefficients of the mode at a place: a number of each array, which no struct has together.
     fn mode_at(&self, t: usize) -> Mode
         requires { t < 24 }
         ensures { result ≡ mode_in self.now t }
@@ -534,6 +539,7 @@ fn batch_sum(bands: &[f32; 24], first: usize, apart: usize) -> f32
 }
 
 // The sum of each batch, added to y in turn; 0.0 is added once, to y, so that none of the sums has to begin with it.
+// The six rows are the table of the batches' places, and their order is the order of the sums.
 pub fn add_batches(y: f32, bands: &[f32; 24]) -> f32
     ensures { result ≡ add_bare y bands.now }
 {

@@ -4,4 +4,4 @@ use Rattle.modal_voice.proofs.OneLoop.{Passing}
 use Rattle.modal_voice.proofs.modal_voice.filter_frames.Given as goal
 
 abbrev pub invariant-loop-i : goal.invariant-loop-i
-invariant-loop-i l = Passing (record { mode = l.fn.k; svf = l.fn.s }) l.temp l.initial.temp_2 l.initial.aux (length l.temp) l.i l.temp_2 l.aux l.passed
+invariant-loop-i l = Passing l.fn.filter l.temp l.initial.temp_2 l.initial.aux (length l.temp) l.i l.temp_2 l.aux l.passed

@@ -1,4 +1,5 @@
 -- `modal_voice::frames_in_one` meets its contract: the loops that it joins, each by the law of loops over frames.
+use mathlib.Core.Path.{refl}
 use native.Mathlib.Omega.{arith}
 use borrow.Author.Rules.{rules}
 use Rattle.modal_voice.proofs.OneLoop.{underway_begin, underway_turn, underway_end}
@@ -7,15 +8,22 @@ use Rattle.modal_voice.proofs.modal_voice.frames_in_one.Goals as goal
 pub loop-i-init : goal.loop-i-init
 loop-i-init g c =
     let a = c.args in
-    underway_begin (record { mode = a.k; svf = a.s }) a.m.now a.states.now a.temp.now a.temp_2.now a.out.now a.aux.now c.requires (search rules) c.first-ahead.ensures.0 c.first-ahead.ensures.1
+    let b = a.b.now in
+    underway_begin a.filter a.m.now a.states.now b.temp.now b.temp_2.now b.out.now b.aux.now c.requires (search rules) c.first-ahead.ensures.0 c.first-ahead.ensures.1
 
 pub loop-i-preserved : goal.loop-i-preserved
 loop-i-preserved g c =
     let a = c.args in
+    let b = a.b.now in
     let q = c.on-ahead.ensures in
-    underway_turn (record { mode = a.k; svf = a.s }) a.m.now a.states.now a.temp.now a.temp_2.now a.out.now a.aux.now c.loop-i.invariant (omega arith) q.0 q.1 c.frame_at.ensures
+    underway_turn a.filter a.m.now a.states.now b.temp.now b.temp_2.now b.out.now b.aux.now c.loop-i.invariant (omega arith) q.0 q.1 c.frame_at.ensures
 
 pub returns : goal.returns
 returns g c =
     let a = c.args in
-    underway_end (record { mode = a.k; svf = a.s }) a.m.now a.states.now a.temp.now a.temp_2.now a.out.now a.aux.now c.loop-i.invariant (omega arith)
+    let b = a.b.now in
+    record {
+      all = underway_end a.filter a.m.now a.states.now b.temp.now b.temp_2.now b.out.now b.aux.now c.loop-i.invariant (omega arith);
+      temp = refl;
+      same = record { temp = refl; temp2 = refl; out = refl; aux = refl };
+    }

@@ -5,4 +5,4 @@ use Rattle.modal_voice.proofs.modal_voice.frames_in_one.Given as goal
 
 abbrev pub invariant-loop-i : goal.invariant-loop-i
 invariant-loop-i g l =
-    Underway (record { mode = l.fn.k; svf = l.fn.s }) l.m l.initial.states l.temp l.initial.temp_2 l.initial.out l.initial.aux (length l.temp) l.i l.temp_2 l.out l.aux l.states l.ahead
+    Underway l.fn.filter l.m l.initial.states l.temp l.initial.temp_2 l.initial.out l.initial.aux (length l.temp) l.i l.temp_2 l.out l.aux l.states l.ahead

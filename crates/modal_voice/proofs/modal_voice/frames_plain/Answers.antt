@@ -1,4 +1,5 @@
 -- `modal_voice::frames_plain` meets its contract: its parts one after the other.
+use mathlib.Core.Path.{refl}
 use native.Mathlib.Omega.{arith}
 use Rattle.modal_voice.proofs.Parts.{rest_turn, rest_at, rest_end}
 use Rattle.modal_voice.proofs.modal_voice.frames_plain.Goals as goal
@@ -6,11 +7,19 @@ use Rattle.modal_voice.proofs.modal_voice.frames_plain.Goals as goal
 pub loop-i-preserved : goal.loop-i-preserved
 loop-i-preserved c =
     let a = c.args in
-    let v = rest_at a.k a.s a.m.now a.states.now a.temp.now a.temp_2.now a.out.now a.aux.now c.loop-i.invariant (omega arith) in
-    rest_at a.k a.s a.m.now a.states.now a.temp.now a.temp_2.now a.out.now a.aux.now
-    (rest_turn a.k a.s a.m.now a.states.now a.temp.now a.temp_2.now a.out.now a.aux.now {i = c.loop-i.i} v (omega arith) (omega arith) c.frames_some-kept.ensures) (omega arith)
+    let b = a.b.now in
+    let s = c.frames_some-after.ensures in
+    let v = rest_at a.filter a.m.now a.states.now b.temp.now b.temp_2.now b.out.now b.aux.now c.loop-i.invariant (omega arith) in
+    rest_at a.filter a.m.now a.states.now b.temp.now b.temp_2.now b.out.now b.aux.now
+    (rest_turn a.filter a.m.now a.states.now b.temp.now b.temp_2.now b.out.now b.aux.now {i = c.loop-i.i} v (omega arith) (omega arith) s.temp s.all) (omega arith)
 
 pub returns : goal.returns
 returns c =
     let a = c.args in
-    rest_end a.k a.s a.m.now a.states.now a.temp.now a.temp_2.now a.out.now a.aux.now c.loop-i.invariant (omega arith)
+    let b = a.b.now in
+    let v = c.loop-i.invariant in
+    record {
+      all = rest_end a.filter a.m.now a.states.now b.temp.now b.temp_2.now b.out.now b.aux.now v (omega arith);
+      temp = v.same;
+      same = record { temp = refl; temp2 = refl; out = refl; aux = refl };
+    }

@@ -12,7 +12,7 @@ use Rattle.modes.proofs.resonator.tune.Given as goal
 abbrev pub invariant-loop-i : goal.invariant-loop-i
 invariant-loop-i l =
     (l.p ≡ partial_at l.f0 l.q_loss l.initial.p l.i)
-    × Stored (λ m. frequency (partial_at l.f0 l.q_loss l.initial.p m)) l.initial.f l.i l.f
-    × Stored (λ m. resonance (partial_at l.f0 l.q_loss l.initial.p m)) l.initial.q l.i l.q
-    × Stored (λ m. amplitude (get_or l.mode_amplitude m nan) (partial_at l.f0 l.q_loss l.initial.p m)) l.initial.a l.i l.a
+    × Stored (λ m. frequency (partial_at l.f0 l.q_loss l.initial.p m)) l.initial.t.f l.i l.t.f
+    × Stored (λ m. resonance (partial_at l.f0 l.q_loss l.initial.p m)) l.initial.t.q l.i l.t.q
+    × Stored (λ m. amplitude (get_or l.mode_amplitude m nan) (partial_at l.f0 l.q_loss l.initial.p m)) l.initial.t.a l.i l.t.a
     × Steady (lt l.initial.p.stiffness c0) l.p.stiffness
