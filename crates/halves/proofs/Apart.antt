@@ -156,13 +156,7 @@ module _ (k : Modes) (s₀ : States) (xs : List Float) where
   pub passed_end : {i : ℕ} {s : States} {rows : List (List Float)} → Passed k s₀ xs i s rows → length xs ≤ i → (s ≡ over (tail_state k) s₀ xs) × Rows k s₀ xs rows
   passed_end {i} f l = (f.here ∙ ap (over (tail_state k) s₀) (take_all i xs l), λ j m. f.rows_are j (omega arith))
 
--- ---- a frame of each pass, by what its calls ensure
-
-pub tailed : {b : Bands} {row : List Float} (k : Modes) (s : States) (x : Float) → b ≡ tail_of k s x → row ≡ last_eight b.bands
-    → ◌≡◌ {A = States × List Float} (b.states, row) (tail_frame k s x)
-tailed k s x e r =
-    let w = r ∙ ap (λ (b : Bands). last_eight b.bands) e in
-    λ i. ((e i).states, w i)
+-- ---- a frame of the second pass, by what its calls ensure
 
 -- stores of f32 among f32
 set_fits : (xs : List Float) (t : ℕ) (a : Float) → Fitting xs → T (fits binary32 a) → Fitting (set xs t a)

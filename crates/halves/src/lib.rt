@@ -10,6 +10,7 @@ ghost use Rattle.halves.specs.Halves.{last_eight, row_at, take_row, tail_state, 
 use modes::resonator::{Modes, States, add_batches};
 
 // What is heard of the last 8 modes, into a row.
+#[tactic(auto, using(crate::proofs::Apart::row_put))]
 fn put_row(bands: &[f32; 24], row: &mut [f32; 8])
     ensures { row.new ≡ last_eight bands.now }
 {
@@ -26,7 +27,7 @@ fn tail_frame(k: &Modes, states: &mut States, row: &mut [f32; 8], x: f32)
 }
 
 // All samples through the last 8 modes, a row for each of up to 64: an array of that many would ask a full block.
-// k is read by both passes and states are written by both: a struct of them, with the samples, would be lent to each in a way of its own.
+// Both passes take k, states and the samples: a struct of them would be made once, in `run_halves`, and taken apart in each pass.
 fn run_tail(k: &Modes, states: &mut States, in_: &[f32], rows: &mut [[f32; 8]; 64])
     requires { length in_.now ≤ 64 }
     ensures { (states.new ≡ over (tail_state k.now) states.old in_.now) × Rows k.now states.old in_.now rows.new }
@@ -37,6 +38,7 @@ fn run_tail(k: &Modes, states: &mut States, in_: &[f32], rows: &mut [[f32; 8]; 6
 }
 
 // A row behind what is heard of the first 16 modes.
+#[tactic(auto, using(crate::proofs::Apart::row_taken))]
 fn take_row(row: &[f32; 8], bands: &mut [f32; 24])
     ensures { bands.new ≡ take_row row.now bands.old }
 {
@@ -65,6 +67,7 @@ fn run_head(k: &Modes, states: &mut States, in_: &[f32], out: &mut [f32], rows: 
 }
 
 // At most 64 frames through all modes.
+#[tactic(auto, using(crate::proofs::Apart::passed_both))]
 pub fn run_halves(k: &Modes, states: &mut States, in_: &[f32], out: &mut [f32])
     requires { (length in_.now ≤ 64) × (length in_.now ≡ length out.old) × FullStates states.old }
     ensures { (states.new, out.new) ≡ scan (frame_of k.now) states.old in_.now out.old }

@@ -38,12 +38,6 @@ module _ (k : Knobs) (held : Bool) (cutoff : Float) (temp : List Float) {quiet :
   unfolding clicked
   struck h ed es = rw (h, e, es, ed)
 
-pub unsustained : (k : Knobs) (held : Bool) (cutoff : Float) (temp : List Float) (word : ℕ) {temp' : List Float} → k.sustain ≡ false
-    → temp' ≡ clicked k held cutoff temp → run (excitation k.sustain k held cutoff temp) word ≡ record { value = temp'; word = word }
-unfolding excitation
-unsustained k held cutoff temp word h e =
-    ap (λ (b : Bool). run (excitation b k held cutoff temp) word) h ∙ ap (λ (t : List Float). record { value = t; word = word }) (sym e)
-
 -- ---- the halves
 module _ (k : Knobs) (v : ModalVoice) (temp temp2 aux : List Float) (word : ℕ) where
   pub excited : {cutoff q : Float} {held : Bool} {w : ℕ} {filter : ResonatorSvf} {temp' temp2' aux' : List Float} {counts : Counts}

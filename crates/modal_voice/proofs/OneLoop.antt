@@ -13,6 +13,7 @@ use Rattle.ground.proofs.Frames.{Scan, frames_begin, length_scan, scan_turn, sca
 use Rattle.ground.proofs.Lead.{fill, Lead, lead_begin, lead_turn, lead_puts, lead_end}
 use Rattle.noise.specs.declared.excitation.Knobs.{Knobs}
 use Rattle.noise.specs.declared.excitation.Counts.{Counts}
+use Rattle.noise.specs.declared.buffers.Buffers.{Buffers}
 use Rattle.noise.specs.Excitation.{Alike, add_step, raised, added}
 use Rattle.modes.specs.declared.resonator.ResonatorSvf.{ResonatorSvf}
 use Rattle.modes.specs.declared.resonator.Batch.{Batch}
@@ -27,7 +28,7 @@ use Rattle.modal_voice.specs.declared.modal_voice.ModalVoice.{ModalVoice}
 use Rattle.modes.specs.Resonator.{mode_of, low_block}
 use Rattle.modes.specs.OnePass.{modes_for, states_of, filters_of, frame_of, one_pass}
 use Rattle.modal_voice.specs.ModalVoice.{cutoff_for, resonance_for, excitation, held_after, excitation_words, excitation_counts, render_of}
-use Rattle.modal_voice.specs.OneLoop.{Framed, frames_of, low_pass, Sung, sung_of, has_same_memory, filter_of}
+use Rattle.modal_voice.specs.OneLoop.{Framed, frames_of, low_pass, Sung, sung_of, Sings, has_same_memory, filter_of}
 use Rattle.modes.proofs.OnePass.{processed}
 use Rattle.modal_voice.proofs.Halves.{excited, sounded, rendered}
 
@@ -152,17 +153,20 @@ module _ {A : ℕ} (f : LowPass A) (m : Modes) (states : States) (temp temp2 out
       let fa = ea ∙ ap (λ (q : LowPass A × List Float). added q.1 aux) ef in
       λ j. record { filter = (ef j).0; states = (fo j).0; temp2 = (ef j).1; out = (fo j).1; aux = fa j }
 
-  -- the same with what the modes keep in batches
-  pub all_frames : (fs : List Batch) {z : LowPass A} {now : States} {temp2' out' aux' : List Float} {gs : List Batch}
-      → states ≡ states_of fs
-      → ◌≡◌ {A = Sung A} (record { filter = z; states = now; temp2 = temp2'; out = out'; aux = aux' }) (sung_of f m states temp temp2 out aux)
-      → gs ≡ filters_of now
-      → ◌≡◌ {A = Framed} (record { filter = z.svf; mode_filters = gs; temp2 = temp2'; out = out'; aux = aux' }) (frames_of f.mode f.svf m fs temp temp2 out aux)
-  unfolding frames_of one_pass sung_of low_pass
-  all_frames fs es eg ef =
-      let e = eg ∙ ap (λ (v : States). sung_of f m v temp temp2 out aux) es in
-      let hf = ef ∙ ap (λ (q : Sung A). filters_of q.states) e in
-      λ j. record { filter = (e j).filter.svf; mode_filters = hf j; temp2 = (e j).temp2; out = (e j).out; aux = (e j).aux }
+-- the same with what the modes keep in batches
+pub all_frames : {A : ℕ} (f : LowPass A) (m : Modes) (fs : List Batch) (b : Buffers) {g : LowPass A} {z : ResonatorSvf} {s now t : States} {c d : Buffers} {gs : List Batch}
+    → s ≡ states_of fs → Sings f m s b g now c → z ≡ g.svf → t ≡ now → d ≡ c → gs ≡ filters_of t
+    → ◌≡◌ {A = Framed} (record { filter = z; mode_filters = gs; temp2 = d.temp_2.now; out = d.out.now; aux = d.aux.now })
+    (frames_of f.mode f.svf m fs b.temp.now b.temp_2.now b.out.now b.aux.now)
+unfolding frames_of one_pass sung_of low_pass
+all_frames {A} f m fs b es h ez et ed ef =
+    let e = h.all ∙ ap (λ (v : States). sung_of f m v b.temp.now b.temp_2.now b.out.now b.aux.now) es in
+    let hz = ez ∙ ap (λ (q : Sung A). q.filter.svf) e in
+    let hf = ef ∙ ap filters_of (et ∙ ap (λ (q : Sung A). q.states) e) in
+    let h2 = ap (λ (q : Buffers). q.temp_2.now) ed ∙ ap (λ (q : Sung A). q.temp2) e in
+    let ho = ap (λ (q : Buffers). q.out.now) ed ∙ ap (λ (q : Sung A). q.out) e in
+    let ha = ap (λ (q : Buffers). q.aux.now) ed ∙ ap (λ (q : Sung A). q.aux) e in
+    λ j. record { filter = hz j; mode_filters = hf j; temp2 = h2 j; out = ho j; aux = ha j }
 
 -- ---- what the loop leaves, as the halves leave it
 module _ (k : Mode) (s : ResonatorSvf) (m : Modes) (fs : List Batch) (temp temp2 out aux : List Float)

@@ -1,10 +1,13 @@
 -- A block's frames part by part: a part of each buffer is lent, and put back between what stands before and behind it. Assumes nothing.
 use mathlib.Core.Path.{◌≡◌, refl, sym, ◌∙◌, ap, subst}
 use mathlib.Core.List.{List, [], ◌∷◌, ◌++◌, append_assoc}
-use Prim.Native.Nat.{ℕ, zero, suc, ◌+◌, ◌-◌, ◌*◌, ◌^◌, ◌≤◌, ◌<◌}
+use Prim.Native.Nat.{ℕ, ◌+◌, ◌-◌, ◌*◌, ◌^◌, ◌≤◌, ◌<◌}
 use native.Mathlib.Omega.{arith}
-use lib.ListN.{length, take, drop, length-append, length-take, length-drop, take-append-drop, drop_of_length-le}
+use borrow.Rule.Slice.PartMut.{mid_of, put_mid, put_same, mid_len, same_len_mid}
+use lib.ListN.{length, take, drop, take-append-drop, drop_of_length-le}
+use lib.Seq.{drop-drop}
 use lib.Ieee.{Float}
+use Rattle.std.proofs.lemmas.Slice.{take-put_mid, drop-put_mid}
 use Rattle.ground.specs.Frames.{scan}
 use Rattle.ground.proofs.Frames.{length_scan}
 use Rattle.noise.specs.Excitation.{add_step, added}
@@ -28,62 +31,22 @@ scan_append {S} {A} {B} step s (x ∷ xs) xs' (y ∷ ys) ys' e =
 
 -- ---- a part put back
 module _ {X : Type 0} where
-  -- what stands before, in and behind the part from i to e, where zs was put
-  take_front : (xs ys : List X) → take (length xs) (xs ++ ys) ≡ xs
-  take_front [] ys = refl
-  take_front (x ∷ xs) ys = ap (λ (zs : List X). x ∷ zs) (take_front xs ys)
-
-  drop_front : (xs ys : List X) → drop (length xs) (xs ++ ys) ≡ ys
-  drop_front [] ys = refl
-  drop_front (x ∷ xs) ys = drop_front xs ys
-
-  drop_none : (n : ℕ) → ◌≡◌ {A = List X} (drop n []) []
-  drop_none zero = refl
-  drop_none (suc n) = refl
-
-  drop_drop : (i j : ℕ) (xs : List X) → drop j (drop i xs) ≡ drop (i + j) xs
-  drop_drop zero j xs = let p : j ≡ 0 + j = omega arith in ap (λ (n : ℕ). drop n xs) p
-  drop_drop (suc i) j [] = drop_none j ∙ sym (drop_none (suc i + j))
-  drop_drop (suc i) j (x ∷ xs) = let p : suc (i + j) ≡ suc i + j = omega arith in drop_drop i j xs ∙ ap (λ (n : ℕ). drop n (x ∷ xs)) p
-
-  abbrev pub put : ℕ → ℕ → List X → List X → List X
-  put i e zs xs = take i xs ++ (zs ++ drop (e - i) (drop i xs))
-
-  -- a part put back as it was
-  pub put_same : (i e : ℕ) (xs : List X) → put i e (take (e - i) (drop i xs)) xs ≡ xs
-  put_same i e xs = ap (λ (zs : List X). take i xs ++ zs) (take-append-drop (e - i) (drop i xs)) ∙ take-append-drop i xs
-
-  -- the part and what is behind it
-  pub in_two : (i e : ℕ) (xs : List X) → i ≤ e → drop i xs ≡ take (e - i) (drop i xs) ++ drop e xs
+  -- the part from i to e and what is behind it
+  in_two : (i e : ℕ) (xs : List X) → i ≤ e → drop i xs ≡ mid_of i (e - i) xs ++ drop e xs
   in_two i e xs l =
       let p : i + (e - i) ≡ e = omega (arith, l) in
-      sym (take-append-drop (e - i) (drop i xs)) ∙ ap (λ (zs : List X). take (e - i) (drop i xs) ++ zs) (drop_drop i (e - i) xs ∙ ap (λ (n : ℕ). drop n xs) p)
+      sym (take-append-drop (e - i) (drop i xs)) ∙ ap (λ (zs : List X). mid_of i (e - i) xs ++ zs) (drop-drop (e - i) i xs ∙ ap (λ (n : ℕ). drop n xs) p)
 
+  -- what stands up to it and behind it, where zs was put in its place
   module _ (i e : ℕ) (zs xs : List X) (l : i ≤ e) (m : e ≤ length xs) (s : length zs ≡ e - i) where
-    front_size : length (take i xs ++ zs) ≡ e
-    front_size = omega (arith, length-append (take i xs) zs, length-take i xs, l, m, s)
+    put_before : take e (put_mid i (e - i) xs zs) ≡ take i xs ++ zs
+    put_before = take-put_mid i (e - i) xs zs e (omega (arith, l, s)) (omega (arith, l, m))
 
-    pub put_before : take e (put i e zs xs) ≡ take i xs ++ zs
-    put_before =
-        ap (λ (ys : List X). take e ys) (sym (append_assoc (take i xs) zs (drop (e - i) (drop i xs))))
-        ∙ ap (λ (n : ℕ). take n ((take i xs ++ zs) ++ drop (e - i) (drop i xs))) (sym front_size)
-        ∙ take_front (take i xs ++ zs) (drop (e - i) (drop i xs))
+    put_behind : drop e (put_mid i (e - i) xs zs) ≡ drop e xs
+    put_behind = drop-put_mid i (e - i) xs zs e (omega (arith, l)) (omega (arith, l, m)) s
 
-    pub put_behind : drop e (put i e zs xs) ≡ drop e xs
-    put_behind =
-        let p : i + (e - i) ≡ e = omega (arith, l) in
-        ap (λ (ys : List X). drop e ys) (sym (append_assoc (take i xs) zs (drop (e - i) (drop i xs))))
-        ∙ ap (λ (n : ℕ). drop n ((take i xs ++ zs) ++ drop (e - i) (drop i xs))) (sym front_size)
-        ∙ drop_front (take i xs ++ zs) (drop (e - i) (drop i xs))
-        ∙ drop_drop i (e - i) xs
-        ∙ ap (λ (n : ℕ). drop n xs) p
-
-    pub put_size : length (put i e zs xs) ≡ length xs
-    put_size =
-        omega (arith, length-append (take i xs) (zs ++ drop (e - i) (drop i xs)), length-append zs (drop (e - i) (drop i xs)), length-take i xs, length-drop (e - i) (drop i xs), length-drop i xs, l, m, s)
-
-  pub part_size : (i e : ℕ) (xs : List X) → i ≤ e → e ≤ length xs → length (take (e - i) (drop i xs)) ≡ e - i
-  part_size i e xs l m = omega (arith, length-take (e - i) (drop i xs), length-drop i xs, l, m)
+    put_size : length (put_mid i (e - i) xs zs) ≡ length xs
+    put_size = same_len_mid i (e - i) xs zs (s ∙ sym (mid_len i e xs m))
 
 -- ---- the frames of a block
 module _ {A : ℕ} (m : Modes) where
@@ -130,29 +93,29 @@ module _ {A : ℕ} (f : LowPass A) (m : Modes) (states : States) (temp temp2 out
     pub within : i ≤ n
     pub small : n * 4 < 2 ^ 63
 
-  pub rest_turn : {n i e : ℕ} {xs ts os us X T O U : List Float} {now now' : States} {filter filter' : LowPass A}
-      → Rest n i xs ts os us now filter → i ≤ e → e ≤ n → X ≡ take (e - i) (drop i xs)
+  rest_turn : {n i e : ℕ} {xs ts os us X T O U : List Float} {now now' : States} {filter filter' : LowPass A}
+      → Rest n i xs ts os us now filter → i ≤ e → e ≤ n → X ≡ mid_of i (e - i) xs
       → ◌≡◌ {A = Sung A} (record { filter = filter'; states = now'; temp2 = T; out = O; aux = U })
-      (sung_of filter m now (take (e - i) (drop i xs)) (take (e - i) (drop i ts)) (take (e - i) (drop i os)) (take (e - i) (drop i us)))
-      → Rest n e (put i e X xs) (put i e T ts) (put i e O os) (put i e U us) now' filter'
+      (sung_of filter m now (mid_of i (e - i) xs) (mid_of i (e - i) ts) (mid_of i (e - i) os) (mid_of i (e - i) us))
+      → Rest n e (put_mid i (e - i) xs X) (put_mid i (e - i) ts T) (put_mid i (e - i) os O) (put_mid i (e - i) us U) now' filter'
   rest_turn {n} {i} {e} {xs} {ts} {os} {us} {X} {T} {O} {U} {now = now} {now' = now'} {filter = filter} {filter' = filter'} v l g h d =
-      let c = d ∙ ap (λ (ys : List Float). sung_of filter m now (take (e - i) (drop i ys)) (take (e - i) (drop i ts)) (take (e - i) (drop i os)) (take (e - i) (drop i us))) v.same in
+      let c = d ∙ ap (λ (ys : List Float). sung_of filter m now (mid_of i (e - i) ys) (mid_of i (e - i) ts) (mid_of i (e - i) os) (mid_of i (e - i) us)) v.same in
       let lt : e ≤ length ts = omega (arith, v.temp2_size, g) in
       let lo : e ≤ length os = omega (arith, v.out_size, g) in
       let lu : e ≤ length us = omega (arith, v.aux_size, g) in
       let lx : e ≤ length temp = omega (arith, v.all, g) in
-      let px = part_size i e temp l lx in
-      let pt = part_size i e ts l lt in
-      let po = part_size i e os l lo in
-      let pu = part_size i e us l lu in
-      let z = sung_sizes m filter now (take (e - i) (drop i temp)) (take (e - i) (drop i ts)) (take (e - i) (drop i os)) (take (e - i) (drop i us)) c in
+      let px = mid_len i e temp lx in
+      let pt = mid_len i e ts lt in
+      let po = mid_len i e os lo in
+      let pu = mid_len i e us lu in
+      let z = sung_sizes m filter now (mid_of i (e - i) temp) (mid_of i (e - i) ts) (mid_of i (e - i) os) (mid_of i (e - i) us) c in
       let sT = z.0 ∙ pt in
       let sO = z.1 ∙ po in
       let sU = z.2 ∙ pu in
       let q = sung_of filter' m now' (drop e temp) (drop e ts) (drop e os) (drop e us) in
       let split : sung_of filter m now (drop i temp) (drop i ts) (drop i os) (drop i us) ≡ joined m T O U q =
       (λ j. sung_of filter m now (in_two i e temp l j) (in_two i e ts l j) (in_two i e os l j) (in_two i e us l j))
-      ∙ sung_append m filter now (take (e - i) (drop i temp)) (drop e temp) (take (e - i) (drop i ts)) (drop e ts) (take (e - i) (drop i os)) (drop e os) (take (e - i) (drop i us)) (drop e us)
+      ∙ sung_append m filter now (mid_of i (e - i) temp) (drop e temp) (mid_of i (e - i) ts) (drop e ts) (mid_of i (e - i) os) (drop e os) (mid_of i (e - i) us) (drop e us)
       (px ∙ sym pt) (pt ∙ sym po) (pt ∙ sym pu)
       ∙ ap (λ (p : Sung A). joined m p.temp2 p.out p.aux (sung_of p.filter m p.states (drop e temp) (drop e ts) (drop e os) (drop e us))) (sym c) in
       let bt = put_before i e T ts l lt sT in
@@ -172,7 +135,7 @@ module _ {A : ℕ} (f : LowPass A) (m : Modes) (states : States) (temp temp2 out
               aux = sym (append_assoc (take i us) U q.aux) j;
             })
             ∙ (λ j. joined m (sym bt j) (sym bo j) (sym bu j) (sung_of filter' m now' (drop e temp) (sym et j) (sym eo j) (sym eu j)));
-        same = ap (λ (Y : List Float). put i e Y xs) h ∙ put_same i e xs ∙ v.same;
+        same = ap (λ (Y : List Float). put_mid i (e - i) xs Y) h ∙ put_same i (e - i) xs ∙ v.same;
         all = v.all;
         temp2_size = put_size i e T ts l lt sT ∙ v.temp2_size;
         out_size = put_size i e O os l lo sO ∙ v.out_size;
@@ -181,9 +144,16 @@ module _ {A : ℕ} (f : LowPass A) (m : Modes) (states : States) (temp temp2 out
         small = v.small;
       }
 
-  -- the same at an equal place
-  pub rest_at : {n i j : ℕ} {xs ts os us : List Float} {now : States} {filter : LowPass A} → Rest n i xs ts os us now filter → i ≡ j → Rest n j xs ts os us now filter
+  -- the same at equal places
+  rest_at : {n i j : ℕ} {xs ts os us : List Float} {now : States} {filter : LowPass A} → Rest n i xs ts os us now filter → i ≡ j → Rest n j xs ts os us now filter
   rest_at {n} {xs = xs} {ts = ts} {os = os} {us = us} {now = now} {filter = filter} v e = subst (λ (j : ℕ). Rest n j xs ts os us now filter) e v
+
+  pub rest_past : {n g h : ℕ} (i e : ℕ) {xs ts os us X T O U : List Float} {now now' : States} {filter filter' : LowPass A}
+      → Rest n g xs ts os us now filter → g ≡ i → i ≤ e → e ≤ n → e ≡ h → X ≡ mid_of i (e - i) xs
+      → ◌≡◌ {A = Sung A} (record { filter = filter'; states = now'; temp2 = T; out = O; aux = U })
+      (sung_of filter m now (mid_of i (e - i) xs) (mid_of i (e - i) ts) (mid_of i (e - i) os) (mid_of i (e - i) us))
+      → Rest n h (put_mid i (e - i) xs X) (put_mid i (e - i) ts T) (put_mid i (e - i) os O) (put_mid i (e - i) us U) now' filter'
+  rest_past i e v p l g q h d = rest_at (rest_turn (rest_at v p) l g h d) q
 
   pub rest_end : {n i : ℕ} {xs ts os us : List Float} {now : States} {filter : LowPass A} → Rest n i xs ts os us now filter → n ≤ i
       → ◌≡◌ {A = Sung A} (record { filter = filter; states = now; temp2 = ts; out = os; aux = us }) (sung_of f m states temp temp2 out aux)

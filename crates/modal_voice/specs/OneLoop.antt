@@ -60,7 +60,7 @@ sung_of f m states temp temp2 out aux =
     let p = scan (frame_of m) states e.1 out in
     record { filter = e.0; states = p.0; temp2 = e.1; out = p.1; aux = added e.1 aux }
 
--- the filter g, the states now and the buffers c are what it makes of f, states and b: the buffers that were lent, and temp as it was
+-- sung_of f, states and what stands in b gives the filter g, the states now and what stands in c; c are the buffers that were lent, and temp is as it was
 pub record Sings {A : ℕ} (f : LowPass A) (m : Modes) (states : States) (b : Buffers) (g : LowPass A) (now : States) (c : Buffers) : Type 0 where
   pub all : record { filter = g; states = now; temp2 = c.temp_2.now; out = c.out.now; aux = c.aux.now } ≡ sung_of f m states b.temp.now b.temp_2.now b.out.now b.aux.now
   pub temp : c.temp.now ≡ b.temp.now

@@ -51,19 +51,18 @@ fn strike(accent: f32, damping: f32, cutoff: f32) -> f32
 }
 
 // Silence, and a click in its first frame where a strike sounds.
+#[tactic(auto, using(crate::proofs::Halves::no_strike, crate::proofs::Halves::no_frames, crate::proofs::Halves::struck))]
 fn fill_click(k: Knobs, held: bool, cutoff: f32, temp: &mut [f32])
     ensures { temp.new ≡ clicked k held cutoff temp.old }
 {
-    let n = temp.len();
     utils::delay_line::reset(temp);
     if !(k.trigger | held) {
         return;
     }
-    if n == 0 {
-        return;
+    if let Some(first) = temp.first_mut() {
+        let damping = noise::excitation::raise(k.accent, k.damping);
+        *first = strike(k.accent, damping, cutoff);
     }
-    let damping = noise::excitation::raise(k.accent, k.damping);
-    temp[0] = strike(k.accent, damping, cutoff);
 }
 
 // Dust where the voice is sustained; else the click.
@@ -73,10 +72,11 @@ fn fill_excitation(k: Knobs, held: bool, cutoff: f32, temp: &mut [f32], word: u3
 {
     if k.sustain {
         let f = noise::excitation::dust_frequency(k.brightness);
-        return noise::excitation::fill_dust(f, 4.0 - f * 3.0, k.accent, temp, word);
+        noise::excitation::fill_dust(f, 4.0 - f * 3.0, k.accent, temp, word)
+    } else {
+        fill_click(k, held, cutoff, temp);
+        word
     }
-    fill_click(k, held, cutoff, temp);
-    word
 }
 
 // Whether a strike is held after a block of n.
@@ -110,6 +110,7 @@ pub struct LowPass<const AROUND: bool> {
 
 impl<const AROUND: bool> LowPass<AROUND> {
     // A sample through it; at SMALL its products are taken as if they were subnormal.
+    #[tactic(auto, unfolding(ground::specs::Frames::scan))]
     fn pass<const SMALL: bool>(self, x: f32) -> (LowPass<AROUND>, f32)
         ensures { result ≡ filter_of self.entry x }
     {
@@ -160,10 +161,7 @@ fn frames_in_one<const AROUND: bool>(
     let temp_2 = &mut *b.temp_2;
     let out = &mut *b.out;
     let aux = &mut *b.aux;
-    let mut quiet = Quiet {
-        low: false,
-        high: false,
-    };
+    let mut quiet = Quiet::default();
     let mut ahead = Passed::first(filter, temp);
     for i in 0..temp.len() {
         let x = ahead.out;
@@ -355,6 +353,7 @@ impl ModalVoice {
     }
 
     // The second half: the resonator from temp_2 into out. It draws no word.
+    #[tactic(auto, unfolding(crate::specs::ModalVoice::sound_of))]
     pub fn sound(self, k: Knobs, temp_2: &[f32], out: &mut [f32]) -> ModalVoice
         ensures { sound_of k self temp_2.now out.old ≡ ret record { voice = result; out = out.new } }
     {

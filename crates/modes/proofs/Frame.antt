@@ -79,9 +79,6 @@ places_then (suc n) m k b x i =
     ap (λ (t : ℕ). places_of m k (places_of (suc n) k b x i) x t) e ∙ places_then n m k (place_of k b x i) x (i + 1) ∙ ap (λ (p : ℕ). places_of p k b x i) f
 
 module _ (k : Modes) (x : Float) (i : ℕ) (b₀ : Bands) where
-  pub placed_begin : Placed k x i b₀ i b₀
-  placed_begin = let e : 0 ≡ i - i = omega arith in record { so_far = ap (λ (n : ℕ). places_of n k b₀ x i) e }
-
   pub placed_turn : {t : ℕ} {b b' : Bands} → Placed k x i b₀ t b → i ≤ t → b' ≡ place_of k b x t → Placed k x i b₀ (t + 1) b'
   placed_turn {t} {b} {b'} v l e =
       let p : i + (t - i) ≡ t = omega (arith, l) in

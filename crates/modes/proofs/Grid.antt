@@ -432,7 +432,7 @@ least = of_bits binary64 0x3810000000000000
 abbrev minus_least : Float
 minus_least = of_bits binary64 0xb810000000000000
 
-pub both : (a b : Bool) → (a && b) ≡ true → (a ≡ true) × (b ≡ true)
+both : (a b : Bool) → (a && b) ≡ true → (a ≡ true) × (b ≡ true)
 both true true h = (refl, refl)
 both true false h = absurd (false≢true h)
 both false b h = absurd (false≢true h)
@@ -605,7 +605,7 @@ module _ (s u : Bool) (m n : ℕ) (e k : ℤ) (p : T (fits binary32 (fin s m e))
             rounded w short_of σ r (grid_fits wide_of) fo (subst (λ (b : Bool). HasValue w b r (2 ^ 149)) (f.2 (eq_not w f.0 r (2 ^ 149) (pow_pos 149) f.1 y)) f.1) o;
       }
 
-pub small_product : (x y : Float) → T (fits binary32 x) → T (fits binary32 y) → (lt (mul binary64 x y) least && lt minus_least (mul binary64 x y)) ≡ true
+small_product : (x y : Float) → T (fits binary32 x) → T (fits binary32 y) → (lt (mul binary64 x y) least && lt minus_least (mul binary64 x y)) ≡ true
     → Small (mul binary64 x y) (on_grid (mul binary64 x y)) (mul binary32 x y)
 small_product x y p q g =
     let b = both (lt (mul binary64 x y) least) (lt minus_least (mul binary64 x y)) g in
@@ -624,12 +624,18 @@ pub not_false : (b : Bool) → not b ≡ false → b ≡ true
 not_false true h = refl
 not_false false h = absurd (true≢false h)
 
-pub wide : (x y : Float) → T (fits binary32 x) → lt x y ≡ true → T (fits binary64 x && not (is_nan x))
+wide : (x y : Float) → T (fits binary32 x) → lt x y ≡ true → T (fits binary64 x && not (is_nan x))
 unfolding is_nan lt
 wide nan y p h = absurd (false≢true h)
 wide (inf s) y p h = and_i (fits binary64 (inf s)) true (fits_widens (inf s) p) tt
 wide (fin s m e) y p h = and_i (fits binary64 (fin s m e)) true (fits_widens (fin s m e) p) tt
 
-pub at_grid : (x y w : Float) → w ≡ on_grid (mul binary64 x y)
-    → Small (mul binary64 x y) (on_grid (mul binary64 x y)) (mul binary32 x y) → Small (mul binary64 x y) w (mul binary32 x y)
-at_grid x y w e s = subst (λ (z : Float). Small (mul binary64 x y) z (mul binary32 x y)) (sym e) s
+-- what is below one bound
+pub wide_both : (x y z : Float) → T (fits binary32 x) → T (fits binary32 y) → (lt x z && lt y z) ≡ true
+    → T (fits binary64 x && not (is_nan x)) × T (fits binary64 y && not (is_nan y))
+wide_both x y z p q h = let b = both (lt x z) (lt y z) h in (wide x z p b.0, wide y z q b.1)
+
+-- a small product on the grid
+pub small_on_grid : (x y w : Float) → T (fits binary32 x) → T (fits binary32 y) → (lt (mul binary64 x y) least && lt minus_least (mul binary64 x y)) ≡ true
+    → w ≡ on_grid (mul binary64 x y) → Small (mul binary64 x y) w (mul binary32 x y)
+small_on_grid x y w p q g e = subst (λ (z : Float). Small (mul binary64 x y) z (mul binary32 x y)) (sym e) (small_product x y p q g)

@@ -5,4 +5,5 @@ pub mod Unique
 pub mod Mirror
 pub mod Grid
 pub mod Bare
+pub mod Constants
 pub mod Steady

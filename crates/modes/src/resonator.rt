@@ -83,7 +83,7 @@ pub struct States {
 }
 
 // Whether small modes are among the first 16 places, and among the last 8: two answers, and neither says that a value is absent.
-#[derive(Clone, Copy)]
+#[derive(Clone, Copy, Default)]
 pub struct Quiet {
     pub low: bool,
     pub high: bool,
@@ -93,6 +93,7 @@ pub struct Quiet {
 
 impl ResonatorSvf {
     // `new` and `init`
+    #[tactic(auto, unfolding(crate::specs::Resonator::svf_new))]
     pub fn new() -> ResonatorSvf
         ensures { result ≡ svf_new }
     {
@@ -124,6 +125,7 @@ impl ResonatorSvf {
     }
 }
 
+#[tactic(auto, unfolding(crate::specs::Resonator::mode_of))]
 pub fn mode_of(f: f32, q: f32, gain: f32) -> Mode
     ensures { result ≡ mode_of f q gain }
 {
@@ -138,6 +140,7 @@ pub fn mode_of(f: f32, q: f32, gain: f32) -> Mode
 }
 
 // Whether products of what a mode keeps may be subnormal.
+#[tactic(auto, unfolding(crate::specs::Subnormal::is_small), using(crate::proofs::Constants::minus_small))]
 pub fn is_small(s: ResonatorSvf) -> bool
     ensures { result ≡ is_small s }
 {
@@ -152,6 +155,7 @@ pub fn times<const SMALL: bool>(a: f32, b: f32) -> f32
 }
 
 // A sample through a mode; at SMALL its products are taken as if they were subnormal.
+#[tactic(auto, unfolding(crate::specs::Resonator::tick_of))]
 pub fn tick<const SMALL: bool>(k: Mode, s: ResonatorSvf, x: f32) -> Ticked
     ensures { result ≡ tick_of k s x }
 {
@@ -171,6 +175,7 @@ pub fn tick<const SMALL: bool>(k: Mode, s: ResonatorSvf, x: f32) -> Ticked
 // ---- the modes of a block
 
 // A mode's frequency, at most 0.499.
+#[tactic(auto, unfolding(crate::specs::Resonator::cap_of))]
 fn cap(f: f32) -> f32
     ensures { result ≡ cap_of f }
 {
@@ -178,6 +183,7 @@ fn cap(f: f32) -> f32
 }
 
 // The stiffness at the next mode.
+#[tactic(auto, unfolding(crate::specs::Resonator::shrunk))]
 fn shrink(stiffness: f32) -> f32
     ensures { result ≡ shrunk stiffness }
 {
@@ -196,6 +202,7 @@ fn shrinkage(stiffness: f32) -> f32
 }
 
 // The next mode's. Every field moves on, so that none is copied.
+#[tactic(auto, unfolding(crate::specs::Resonator::next_of))]
 fn next_partial(f0: f32, q_loss: f32, shrinkage: f32, p: Partial) -> Partial
     requires { shrunk p.stiffness ≡ p.stiffness ⊗ shrinkage }
     ensures { result ≡ next_of f0 q_loss p }
@@ -221,6 +228,7 @@ fn nth_harmonic_compensation(n: usize, stiffness: f32) -> f32
     1.0 / stretch_factor
 }
 
+#[tactic(auto, unfolding(crate::specs::Resonator::first_of))]
 fn first_partial(f0: f32, stiffness: f32, q_sqrt: f32) -> Partial
     ensures { result ≡ first_of f0 stiffness q_sqrt }
 {
@@ -232,6 +240,7 @@ fn first_partial(f0: f32, stiffness: f32, q_sqrt: f32) -> Partial
     }
 }
 
+#[tactic(auto, unfolding(crate::specs::Resonator::loss_of))]
 fn q_loss_of(structure: f32, brightness: f32, damping: f32) -> f32
     ensures { result ≡ loss_of structure brightness damping }
 {
@@ -291,6 +300,7 @@ fn modes_of(t: Tuned) -> Modes
     modes
 }
 
+#[tactic(auto, using(crate::proofs::OnePass::made))]
 pub fn modes_for(
     mode_amplitude: [f32; 24],
     f0: f32,
@@ -347,6 +357,7 @@ impl States {
 
     // A batch's states to their places, the first of them and each `apart` from the one before. Its modes are fields by name, which no loop goes over.
     // The two numbers stand in the rows of two tables below, where a struct of them would be spelled out in each row.
+    #[tactic(auto, unfolding(crate::specs::OnePass::put_batch))]
     fn put_batch(&mut self, batch: Batch, first: usize, apart: usize)
         requires { first + 3 * apart < 24 }
         ensures { self.new ≡ put_batch batch first apart self.old }
@@ -357,6 +368,7 @@ impl States {
         self.put(first + 3 * apart, batch.mode_3);
     }
 
+    #[tactic(auto, unfolding(crate::specs::OnePass::batch_at))]
     fn batch_at(&self, first: usize, apart: usize) -> Batch
         requires { first + 3 * apart < 24 }
         ensures { result ≡ batch_at self.now first apart }
@@ -370,6 +382,7 @@ impl States {
     }
 
     // Whether one of four modes from i on is small.
+    #[tactic(auto, using(crate::proofs::Frame::small_begin, crate::proofs::Frame::small_turn, crate::proofs::Frame::small_end))]
     fn any_small(&self, i: usize) -> bool
         requires { i + 4 ≤ 24 }
         ensures { result ≡ small_four self.now i }
@@ -382,6 +395,7 @@ impl States {
     }
 
     // Whether one of the last 8 modes is.
+    #[tactic(auto, unfolding(crate::specs::OnePass::rests_of))]
     pub fn rests(&self) -> bool
         ensures said { result ≡ rests_of self.now }
         ensures full { FullStates self.now }
@@ -390,14 +404,12 @@ impl States {
     }
 
     // Where small modes are, for a sample that is small.
+    #[tactic(auto, unfolding(crate::specs::OnePass::quiet_of), using(crate::proofs::Constants::minus_small))]
     fn quiet_of(&self, x: f32) -> Quiet
         ensures { result ≡ quiet_of self.now x }
     {
         if !((x < 1.0e-35) & (x > -1.0e-35)) {
-            return Quiet {
-                low: false,
-                high: false,
-            };
+            return Quiet::default();
         }
         Quiet {
             low: self.any_small(0) | self.any_small(4) | self.any_small(8) | self.any_small(12),
@@ -406,6 +418,7 @@ impl States {
     }
 
     // The same at each 16th frame; at the others it stands.
+    #[tactic(auto, unfolding(crate::specs::OnePass::quiet_at))]
     pub fn quiet_at(&self, quiet: Quiet, x: f32, i: usize) -> Quiet
         ensures { result ≡ quiet_at quiet self.now x i }
     {
@@ -436,6 +449,7 @@ impl From<[Batch; 6]> for States {
 impl From<States> for [Batch; 6] {
     ghost from_gives = { λ s fs. fs ≡ filters_of s };
 
+    #[tactic(auto, unfolding(crate::specs::OnePass::filters_of, ground::specs::Frames::tab))]
     fn from(states: States) -> [Batch; 6] {
         [
             states.batch_at(0, 4),
@@ -531,6 +545,7 @@ impl Modes {
 }
 
 // The sum of a batch. Its line shows the order of the four terms, which a loop would not.
+#[tactic(auto, unfolding(crate::specs::OnePass::bare_sum))]
 fn batch_sum(bands: &[f32; 24], first: usize, apart: usize) -> f32
     requires { first + 3 * apart < 24 }
     ensures { result ≡ bare_sum bands.now first apart }
@@ -540,6 +555,7 @@ fn batch_sum(bands: &[f32; 24], first: usize, apart: usize) -> f32
 
 // The sum of each batch, added to y in turn; 0.0 is added once, to y, so that none of the sums has to begin with it.
 // The six rows are the table of the batches' places, and their order is the order of the sums.
+#[tactic(auto, unfolding(crate::specs::OnePass::add_bare))]
 pub fn add_batches(y: f32, bands: &[f32; 24]) -> f32
     ensures { result ≡ add_bare y bands.now }
 {
@@ -566,26 +582,24 @@ fn run_frames(k: &Modes, mode_filters: [Batch; 6], in_: &[f32], out: &mut [f32])
 // ---- Resonator
 
 impl Resonator {
+    #[tactic(auto, unfolding(crate::specs::Resonator::resonator_new))]
     pub fn new() -> Resonator
         ensures { result ≡ resonator_new }
     {
-        let mode_amplitude = [0.0f32; 24];
-        let mode_filters = cleared();
         Resonator {
-            mode_amplitude,
-            mode_filters,
+            mode_amplitude: [0.0; 24],
+            mode_filters: cleared(),
         }
     }
 
     // `init` at a position, with all 24 modes.
+    #[tactic(auto, unfolding(crate::specs::Resonator::resonator_init))]
     pub fn init(self, position: f32) -> Resonator
         ensures { result ≡ resonator_init self position }
     {
-        let mode_amplitude = utils::cosine_oscillator::amplitudes(position);
-        let mode_filters = cleared();
         Resonator {
-            mode_amplitude,
-            mode_filters,
+            mode_amplitude: utils::cosine_oscillator::amplitudes(position),
+            mode_filters: cleared(),
         }
     }
 
@@ -611,6 +625,7 @@ impl Resonator {
 }
 
 // Six batches of four, each state 0.
+#[tactic(auto, unfolding(crate::specs::Resonator::filters_new))]
 fn cleared() -> [Batch; 6]
     ensures { result ≡ filters_new }
 {

@@ -4,6 +4,7 @@ ghost use Rattle.ground.specs.F32.{◌⊗◌};
 ghost use Rattle.modes.specs.Subnormal.{zero_of, on_grid};
 
 // 0, of p's sign.
+#[tactic(auto, unfolding(crate::specs::Subnormal::zero_of), using(crate::proofs::Constants::minus_zero))]
 fn zero_of(p: f64) -> f32
     ensures { result ≡ zero_of p }
 {
@@ -14,6 +15,7 @@ fn zero_of(p: f64) -> f32
 }
 
 // p rounded to a multiple of the least f32, by an anchor of 3 * 2^-98.
+#[tactic(auto, unfolding(crate::specs::Subnormal::on_grid))]
 fn on_grid(p: f64) -> f64
     ensures { result ≡ on_grid p }
 {

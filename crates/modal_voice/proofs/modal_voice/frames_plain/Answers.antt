@@ -1,7 +1,7 @@
 -- `modal_voice::frames_plain` meets its contract: its parts one after the other.
 use mathlib.Core.Path.{refl}
 use native.Mathlib.Omega.{arith}
-use Rattle.modal_voice.proofs.Parts.{rest_turn, rest_at, rest_end}
+use Rattle.modal_voice.proofs.Parts.{rest_past, rest_end}
 use Rattle.modal_voice.proofs.modal_voice.frames_plain.Goals as goal
 
 pub loop-i-preserved : goal.loop-i-preserved
@@ -9,9 +9,7 @@ loop-i-preserved c =
     let a = c.args in
     let b = a.b.now in
     let s = c.frames_some-after.ensures in
-    let v = rest_at a.filter a.m.now a.states.now b.temp.now b.temp_2.now b.out.now b.aux.now c.loop-i.invariant (omega arith) in
-    rest_at a.filter a.m.now a.states.now b.temp.now b.temp_2.now b.out.now b.aux.now
-    (rest_turn a.filter a.m.now a.states.now b.temp.now b.temp_2.now b.out.now b.aux.now {i = c.loop-i.i} v (omega arith) (omega arith) s.temp s.all) (omega arith)
+    rest_past a.filter a.m.now a.states.now b.temp.now b.temp_2.now b.out.now b.aux.now c.loop-i.i c.min-end.result c.loop-i.invariant (omega arith) (omega arith) (omega arith) (omega arith) s.temp s.all
 
 pub returns : goal.returns
 returns c =

@@ -3,19 +3,15 @@ use mathlib.Core.Path.{◌∙◌, ap, sym, subst}
 use Rattle.noise.specs.declared.buffers.Buffers.{Buffers}
 use Rattle.noise.specs.Buffers.{IsSame}
 use Rattle.modal_voice.proofs.OneLoop.{all_frames}
-use Rattle.modes.specs.OnePass.{filters_of}
 use Rattle.modal_voice.proofs.modal_voice.sound_frames.Goals as goal
 use Rattle.modal_voice.proofs.modal_voice.sound_frames.Goals.{then-around, else-around}
 
 pub returns-clause-all : goal.returns-clause-all
 returns-clause-all c =
     let a = c.args in
-    let b = a.b.now in
     elim c.if-around.branch [
-      | then-around w ↦ (λ i. record { filter = w.after-is i; mode_filters = c.into.result; temp2 = (w.b-is i).temp_2.now; out = (w.b-is i).out.now; aux = (w.b-is i).aux.now })
-          ∙ all_frames (record { mode = a.mode; svf = a.svf }) a.m.now c.from-states.result b.temp.now b.temp_2.now b.out.now b.aux.now a.mode_filters c.from-states.ensures w.frames_in_one.ensures.all (c.into.ensures ∙ ap filters_of w.states-is)
-      | else-around w ↦ (λ i. record { filter = w.after-is i; mode_filters = c.into.result; temp2 = (w.b-is i).temp_2.now; out = (w.b-is i).out.now; aux = (w.b-is i).aux.now })
-          ∙ all_frames (record { mode = a.mode; svf = a.svf }) a.m.now c.from-states.result b.temp.now b.temp_2.now b.out.now b.aux.now a.mode_filters c.from-states.ensures w.frames_plain.ensures.all (c.into.ensures ∙ ap filters_of w.states-is)
+      | then-around w ↦ all_frames (record { mode = a.mode; svf = a.svf }) a.m.now a.mode_filters a.b.now c.from-states.ensures w.frames_in_one.ensures w.after-is w.states-is w.b-is c.into.ensures
+      | else-around w ↦ all_frames (record { mode = a.mode; svf = a.svf }) a.m.now a.mode_filters a.b.now c.from-states.ensures w.frames_plain.ensures w.after-is w.states-is w.b-is c.into.ensures
     ]
 
 pub returns-clause-temp : goal.returns-clause-temp

@@ -1,35 +1,24 @@
 -- `subnormal::product` meets its contract.
 use mathlib.Core.Path.{◌∙◌}
-use lib.Ieee.{binary32, of_bits, lt, neg}
+use lib.Ieee.{binary32, of_bits, neg}
 use borrow.Author.Rules.{rules}
-use Rattle.modes.proofs.Grid.{both, wide, small_product, at_grid}
+use Rattle.modes.proofs.Grid.{wide_both, small_on_grid}
 use Rattle.modes.proofs.subnormal.product.Goals as goal
 
 pub float_to_float-p : goal.float_to_float-p
-float_to_float-p c = wide c.args.a (of_bits binary32 0x7149f2ca) (search rules) (both (lt c.args.a (of_bits binary32 0x7149f2ca)) (lt c.args.b (of_bits binary32 0x7149f2ca)) c.if-not-a-b.false).0
+float_to_float-p c = (wide_both c.args.a c.args.b (of_bits binary32 0x7149f2ca) (search rules) (search rules) c.if-not-a-b.false).0
 
 pub float_to_float-p-2 : goal.float_to_float-p-2
-float_to_float-p-2 c = wide c.args.b (of_bits binary32 0x7149f2ca) (search rules) (both (lt c.args.a (of_bits binary32 0x7149f2ca)) (lt c.args.b (of_bits binary32 0x7149f2ca)) c.if-not-a-b.false).1
+float_to_float-p-2 c = (wide_both c.args.a c.args.b (of_bits binary32 0x7149f2ca) (search rules) (search rules) c.if-not-a-b.false).1
 
 pub returns-then-w : goal.returns-then-w
 unfolding of_bits neg
-returns-then-w c =
-    c.zero_of.ensures
-    ∙ (at_grid c.args.a c.args.b c.on_grid-w.result c.on_grid-w.ensures
-    (small_product c.args.a c.args.b (search rules) (search rules)
-    c.if-not-p.false)).at_zero c.if-w.true
-    c.if-not-p-2.false
+returns-then-w c = c.zero_of.ensures ∙ (small_on_grid c.args.a c.args.b c.on_grid-w.result (search rules) (search rules) c.if-not-p.false c.on_grid-w.ensures).at_zero c.if-w.true c.if-not-p-2.false
 
 pub float_to_float-result : goal.float_to_float-result
 unfolding of_bits neg
-float_to_float-result c =
-    ((at_grid c.args.a c.args.b c.on_grid-w.result c.on_grid-w.ensures
-    (small_product c.args.a c.args.b (search rules) (search rules)
-    c.if-not-p.false)).past_zero c.if-w.false).short
+float_to_float-result c = ((small_on_grid c.args.a c.args.b c.on_grid-w.result (search rules) (search rules) c.if-not-p.false c.on_grid-w.ensures).past_zero c.if-w.false).short
 
 pub returns : goal.returns
 unfolding of_bits neg
-returns c =
-    ((at_grid c.args.a c.args.b c.on_grid-w.result c.on_grid-w.ensures
-    (small_product c.args.a c.args.b (search rules) (search rules)
-    c.if-not-p.false)).past_zero c.if-w.false).same
+returns c = ((small_on_grid c.args.a c.args.b c.on_grid-w.result (search rules) (search rules) c.if-not-p.false c.on_grid-w.ensures).past_zero c.if-w.false).same
