@@ -40,13 +40,14 @@ impl Filter for Svf {
         self.process(x)
     }
 
+    // By bits: `==` takes 0.0 and -0.0 for one number, and a NaN for none.
     fn stands(self, after: Svf) -> bool {
         ground::bits::same(self.state_1, after.state_1)
             && ground::bits::same(self.state_2, after.state_2)
     }
 }
 
-// A filter past a sample, what it gave, and whether its memory is as it was.
+// A filter past a sample, what it gave, and whether its memory is as it was; there is a filter and a sample either way, so `stands` is no Option.
 #[derive(Clone, Copy)]
 pub struct Passed<F> {
     pub filter: F,
