@@ -263,14 +263,11 @@ static LUT_PITCH_RATIO_HIGH: [f32; 256] = [
 ];
 
 // LUT_PITCH_RATIO_HIGH[i]; 0.0 past its end.
+#[tactic(auto, unfolding(crate::specs::Pitch::pitch_ratio_high))]
 pub fn lut_pitch_ratio_high(i: usize) -> f32
     ensures { result ≡ entry pitch_ratio_high i }
 {
-    if i < 256 {
-        LUT_PITCH_RATIO_HIGH[i]
-    } else {
-        0.0
-    }
+    crate::read(&LUT_PITCH_RATIO_HIGH, i)
 }
 
 static LUT_PITCH_RATIO_LOW: [f32; 256] = [
@@ -533,8 +530,9 @@ static LUT_PITCH_RATIO_LOW: [f32; 256] = [
 ];
 
 // LUT_PITCH_RATIO_LOW[i]; 0.0 past its end.
+#[tactic(auto, unfolding(crate::specs::Pitch::pitch_ratio_low))]
 pub fn lut_pitch_ratio_low(i: usize) -> f32
     ensures { result ≡ entry pitch_ratio_low i }
 {
-    if i < 256 { LUT_PITCH_RATIO_LOW[i] } else { 0.0 }
+    crate::read(&LUT_PITCH_RATIO_LOW, i)
 }

@@ -72,8 +72,9 @@ static LUT_STIFFNESS: [f32; 65] = [
 ];
 
 // LUT_STIFFNESS[i]; 0.0 past its end.
+#[tactic(auto, unfolding(crate::specs::Stiffness::stiffness))]
 pub fn lut_stiffness(i: usize) -> f32
     ensures { result ≡ entry stiffness i }
 {
-    if i < 65 { LUT_STIFFNESS[i] } else { 0.0 }
+    crate::read(&LUT_STIFFNESS, i)
 }

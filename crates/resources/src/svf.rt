@@ -264,8 +264,9 @@ static LUT_SVF_SHIFT: [f32; 257] = [
 ];
 
 // LUT_SVF_SHIFT[i]; 0.0 past its end.
+#[tactic(auto, unfolding(crate::specs::Svf::svf_shift))]
 pub fn lut_svf_shift(i: usize) -> f32
     ensures { result ≡ entry svf_shift i }
 {
-    if i < 257 { LUT_SVF_SHIFT[i] } else { 0.0 }
+    crate::read(&LUT_SVF_SHIFT, i)
 }
