@@ -3,14 +3,14 @@ ghost use Rattle.std.specs.Prelude.{◌≡◌, true, from_bits, to_bits};
 ghost use Rattle.std.specs.Float.{binary32};
 ghost use Rattle.ground.specs.Floats.{same_float};
 
-// The float of a pattern, the NaN of each NaN's. `f32::from_bits` takes none of these, and std's function that does has a name too long for the many calls.
+// The float of a pattern, the NaN of each NaN's, which `f32::from_bits` does not take. It has a contract in this repository's words, which two must-fail edits try.
 pub fn float_of(pattern: u32) -> f32
     ensures { result ≡ from_bits binary32 pattern }
 {
     std::num::f32_from_bits_with_nan(pattern)
 }
 
-// The pattern of a float, 0x7fc00000 of the NaN. `to_bits` takes no NaN, and std's function that does has a name as long.
+// The pattern of a float, 0x7fc00000 of the NaN, which `to_bits` does not take; for the same reason.
 pub fn pattern_of(x: f32) -> u32
     ensures { result ≡ to_bits binary32 x }
 {

@@ -11,7 +11,7 @@ pub struct Parts {
     pub fractional: f32,
 }
 
-// The whole part from the f32's own bits: its 24 digits, shifted by its exponent.
+// The whole part from the f32's own bits: its 24 digits, shifted by its exponent. std's `truncating_f32_to_u64` takes every float, and longer.
 pub fn cut(x: f32) -> u32
     requires least { le c1 x ≡ true }
     requires most { lt x two_to23 ≡ true }
@@ -113,7 +113,7 @@ pub fn clamp(x: f32, lo: f32, hi: f32) -> f32
     if y > hi { hi } else { y }
 }
 
-// f32::abs, by the cases of a float; std's clause says it by a sign.
+// f32::abs, by the cases of a float, as the definitions of the string have it; std's clause says it by a sign, and each of them would have to be joined to it.
 #[tactic(auto, using(crate::proofs::Signs::without_sign))]
 pub fn abs(x: f32) -> f32
     ensures { result ≡ abs_f x }

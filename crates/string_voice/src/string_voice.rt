@@ -31,7 +31,7 @@ pub struct Strung {
     pub drawn: usize,
 }
 
-// The cutoff of the excitation filter.
+// The cutoff of the excitation filter. The modal voice's, and its excitation, are the same text with other numbers in the Rust, which has each by itself.
 #[tactic(auto, unfolding(crate::specs::StringVoice::cutoff_for, crate::specs::StringVoice::exciter_semitones))]
 fn cutoff_for(k: Knobs) -> f32
     ensures { result ≡ cutoff_for k }
@@ -48,6 +48,7 @@ fn fill_noise(m: usize, temp: &mut [f32], word: u32) -> u32
 {
     utils::delay_line::reset(temp);
     let mut w = word;
+    // by index: in a loop over a part of the buffer no invariant can name the whole
     for i in 0..m {
         w = ground::random::get_word(w);
         temp[i] = ground::random::noise(w);
@@ -235,7 +236,7 @@ impl StringVoice {
         }
     }
 
-    // The second half: the string from temp_2 into out.
+    // The second half: the string from temp_2 into out. At most 2^24 frames, which an f32 counts exactly: a lent buffer has no type that says so.
     pub fn sound(
         self,
         k: Knobs,

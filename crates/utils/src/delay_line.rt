@@ -1,9 +1,10 @@
 // Delay line: a lent slice, whose length is MAX_DELAY, and the place that is written next.
-// The host lends the slice for a call and keeps the place, so the two are parameters and no struct, and each call asks that the place lies in the slice.
+// The two are parameters and no struct, and each call asks that the place lies in the slice: the string keeps its place as a number and is lent its lines for a
+// call, so a struct of them would be made before each read and taken apart behind each write.
 ghost use Rattle.std.specs.Prelude.{◌≡◌, ◌<◌, ◌%◌, length};
 ghost use Rattle.utils.specs.DelayLine.{cleared, tap, written, cubic_of, allpass_of, read_frac, read_hermite};
 
-// What the all-pass gives, and the next place: by name, since the order alone would tell the two numbers of a pair apart.
+// What the all-pass gives, and the next place. By name: of a pair its callers would have to know which number is the sample.
 #[derive(Clone, Copy)]
 pub struct AllpassOut {
     pub out: f32,

@@ -151,7 +151,7 @@ impl Svf {
         (svf, lp)
     }
 
-    // `process_buffer` at the low pass: the frames that both buffers have.
+    // `process_buffer` at the low pass: the frames that both buffers have. `process_low` of a mode is another loop of the Rust, which adds what it gives.
     pub fn process_buffer(self, in_: &[f32], out: &mut [f32]) -> Svf
         ensures { (result, out.new) ≡ svf_buffer self in_.now out.old }
     {

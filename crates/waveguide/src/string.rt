@@ -65,7 +65,7 @@ pub struct Prepared {
     pub block: Block,
 }
 
-// A string after a block, the generator's word, and how many words the block drew.
+// A string after a block, the generator's word, and how many words the block drew. The voice's has its filter beside these, which no string has.
 #[derive(Clone, Copy)]
 pub struct Played {
     pub string: String,
@@ -73,7 +73,8 @@ pub struct Played {
     pub drawn: usize,
 }
 
-// A string within its loop, with the dispersion noise of its next step, a guess at its next delay's whole part, and the words drawn so far.
+// A string within its loop, with the dispersion noise of its next step, a guess at its next delay's whole part, and the words drawn so far. A guess of 0 is
+// never right, as no delay is below 1, so it is no Option, which each step would take apart.
 #[derive(Clone, Copy)]
 pub struct Underway {
     pub string: String,
@@ -187,7 +188,7 @@ fn damping_of(f0: f32, brightness: f32, damping: f32) -> Damping
 }
 
 // The shift table read at a cutoff.
-#[tactic(auto, using(crate::proofs::Ranges::shift_in), unfolding(crate::specs::String::compensation_of))]
+#[tactic(auto, using(crate::proofs::Ranges::shift_in), unfolding(crate::specs::String::compensation_of, utils::specs::Utils::crossfade_of))]
 fn compensation_of(cutoff: f32) -> f32
     ensures { result ≡ compensation_of cutoff }
 {
@@ -195,7 +196,7 @@ fn compensation_of(cutoff: f32) -> f32
     let i = idx.integral;
     let a = resources::svf::lut_svf_shift(i);
     let b = resources::svf::lut_svf_shift(i + 1);
-    a + (b - a) * idx.fractional
+    utils::crossfade(a, b, idx.fractional)
 }
 
 #[tactic(auto, unfolding(crate::specs::String::noise_amount_of))]
