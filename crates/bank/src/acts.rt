@@ -75,7 +75,6 @@ pub fn render_string(
 }
 
 // A render of a modal voice, which has no lines; `around` subnormal products or not.
-// Word and counts are named one by one, here and in `render`, since a struct update cannot change the voice's type.
 pub fn render_modal(
     around: bool,
     x: Slot,
@@ -95,14 +94,10 @@ pub fn render_modal(
     ensures same { IsSame b.new b.old }
 {
     let m = x.modal.render(around, k, b, word);
-    Rendered {
-        voice: Slot {
-            modal: m.voice,
-            ..x
-        },
-        word: m.word,
-        counts: m.counts,
-    }
+    m.with(Slot {
+        modal: m.voice,
+        ..x
+    })
 }
 
 // A render, by the slot's kind.
@@ -129,12 +124,8 @@ pub fn render(
         return render_modal(around, x, word, slot, k, b);
     }
     let s = render_string(x.string, lines, word, slot, k, b);
-    Rendered {
-        voice: Slot {
-            string: s.voice,
-            ..x
-        },
-        word: s.word,
-        counts: s.counts,
-    }
+    s.with(Slot {
+        string: s.voice,
+        ..x
+    })
 }

@@ -16,7 +16,6 @@ pub type Drawn = Rendered<()>;
 
 // A string's render: its voice alone is decoded.
 // It and `render_modal` are no generic one: each decodes, lends and asks for something else.
-// Word and counts are named one by one, since a struct update cannot change the voice's type.
 fn render_string(
     bytes: &mut [u8],
     lines: &mut [f32],
@@ -40,11 +39,7 @@ fn render_string(
     let voice = slot_bytes::decode::string_nth(bytes, slot);
     let r = bank::acts::render_string(voice, lines, word, slot, k, b);
     slot_bytes::encode::put_nth(bytes, slot, r.voice);
-    Rendered {
-        voice: (),
-        word: r.word,
-        counts: r.counts,
-    }
+    r.with(())
 }
 
 // A modal voice's render: its slot is decoded whole, the string's words being few beside its own.
@@ -72,11 +67,7 @@ fn render_modal(
     let x = slot_bytes::decode::nth(bytes, slot);
     let after = bank::acts::render_modal(around, x, word, slot, k, b);
     slot_bytes::encode::put_nth(bytes, slot, after.voice);
-    Rendered {
-        voice: (),
-        word: after.word,
-        counts: after.counts,
-    }
+    after.with(())
 }
 
 // A render, by the slot's kind, which is the number in its bytes; the caller tells `around` at each call.

@@ -31,6 +31,19 @@ pub struct Rendered<V> {
     pub counts: Counts,
 }
 
+impl<V: Copy> Rendered<V> {
+    // The same beside another voice.
+    pub fn with<W>(self, voice: W) -> Rendered<W>
+        ensures { result ≡ record { voice = voice; word = self.word; counts = self.counts } }
+    {
+        Rendered {
+            voice,
+            word: self.word,
+            counts: self.counts,
+        }
+    }
+}
+
 // x moved a quarter of the way to 1, as far as the accent says.
 #[tactic(auto, unfolding(crate::specs::Excitation::raised))]
 pub fn raise(accent: f32, x: f32) -> f32

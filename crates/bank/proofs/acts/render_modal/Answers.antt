@@ -8,7 +8,7 @@ pub returns-clause-moved : goal.returns-clause-moved
 returns-clause-moved c = λ mem.
     let a = c.args in
     let r = c.render-m in
-    modal_moved mem a.word a.slot 1280 refl a.k
+    rw c.with.ensures (modal_moved mem a.word a.slot 1280 refl a.k
     (held a.b.now)
     (held r.new.b)
-    a.x r.result.voice r.result.counts r.result.word c.requires.0 r.ensures.all
+    a.x r.result.voice r.result.counts r.result.word c.requires.0 r.ensures.all)
