@@ -40,6 +40,10 @@ pub record Block (temp temp2 aux filtered : List Float) (n : ℕ) : Type 0 where
   pub filtered_size : length filtered ≡ n
   pub small : n * 4 < 2 ^ 63
 
+-- two memories of one filter
+pub same_memory : (s t : ResonatorSvf) → s.state_1 ≡ t.state_1 → s.state_2 ≡ t.state_2 → s ≡ t
+same_memory s t e f = λ i. record { state_1 = e i; state_2 = f i }
+
 -- whether two excitation filters keep the same
 abbrev pub same : {A : ℕ} → LowPass A → LowPass A → Bool
 same f t = has_same_memory f.svf t.svf

@@ -20,7 +20,7 @@ pub struct ModalVoice {
     pub held: bool,
 }
 
-// The cutoff of the excitation filter.
+// The cutoff of the excitation filter. The string's is another function of the Rust, whose range and base are the same with and without `sustain`.
 #[tactic(auto, unfolding(crate::specs::ModalVoice::cutoff_for))]
 fn cutoff_for(k: Knobs) -> f32
     ensures { result ≡ cutoff_for k }
@@ -65,7 +65,7 @@ fn fill_click(k: Knobs, held: bool, cutoff: f32, temp: &mut [f32])
     }
 }
 
-// Dust where the voice is sustained; else the click.
+// Dust where the voice is sustained; else the click. The string's has other constants, and noise for the click: one for both would be handed all that differs.
 #[tactic(auto, unfolding(crate::specs::ModalVoice::excitation))]
 fn fill_excitation(k: Knobs, held: bool, cutoff: f32, temp: &mut [f32], word: u32) -> u32
     ensures { run (excitation k.sustain k held cutoff temp.old) word ≡ record { value = temp.new; word = result } }
@@ -157,6 +157,7 @@ fn frames_in_one<const AROUND: bool>(
     requires { IsAlike b.old }
     ensures { Sings filter.entry m.now states.old b.old result states.new b.new }
 {
+    // Each field by itself: a pattern that takes `b` apart leaves two `&mut` before each buffer, and the proof of a call that is lent a `&` of one does not close.
     let temp = &mut *b.temp;
     let temp_2 = &mut *b.temp_2;
     let out = &mut *b.out;

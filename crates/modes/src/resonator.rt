@@ -57,7 +57,7 @@ pub struct Partial {
     pub q: f32,
 }
 
-// mode_f, mode_q and mode_a of all modes: three arrays, as the Rust has them.
+// The Rust's mode_f, mode_q and mode_a, filled and read one by one: an array of structs would name each of the three as often, where it is filled and where it is read.
 #[derive(Clone, Copy)]
 pub struct Tuned {
     pub f: [f32; 24],
@@ -187,11 +187,7 @@ fn cap(f: f32) -> f32
 fn shrink(stiffness: f32) -> f32
     ensures { result ≡ shrunk stiffness }
 {
-    if stiffness < 0.0 {
-        stiffness * 0.93
-    } else {
-        stiffness * 0.98
-    }
+    stiffness * shrinkage(stiffness)
 }
 
 // The factor of that, which is the same at every mode.
@@ -240,6 +236,7 @@ fn first_partial(f0: f32, stiffness: f32, q_sqrt: f32) -> Partial
     }
 }
 
+// The factor that takes a mode's q to the next one's. The three numbers are parameters of the Rust's `process`, by its names.
 #[tactic(auto, unfolding(crate::specs::Resonator::loss_of))]
 fn q_loss_of(structure: f32, brightness: f32, damping: f32) -> f32
     ensures { result ≡ loss_of structure brightness damping }
@@ -300,6 +297,7 @@ fn modes_of(t: Tuned) -> Modes
     modes
 }
 
+// The coefficients of all modes for a block. The numbers behind the amplitudes are the parameters of the Rust's `process`, by its names and in its order.
 #[tactic(auto, using(crate::proofs::OnePass::made))]
 pub fn modes_for(
     mode_amplitude: [f32; 24],
@@ -356,7 +354,7 @@ impl States {
     }
 
     // A batch's states to their places, the first of them and each `apart` from the one before. Its modes are fields by name, which no loop goes over.
-    // The two numbers stand in the rows of two tables below, where a struct of them would be spelled out in each row.
+    // `first` and `apart` are asked the same in three contracts: a struct of them that promises it would be made, and its promise shown, in each row of `add_batches`.
     #[tactic(auto, unfolding(crate::specs::OnePass::put_batch))]
     fn put_batch(&mut self, batch: Batch, first: usize, apart: usize)
         requires { first + 3 * apart < 24 }
@@ -381,7 +379,7 @@ impl States {
         }
     }
 
-    // Whether one of four modes from i on is small.
+    // Whether one of four modes from i on is small. All four are looked at, where `any` would stop at the first, so that no branch stands between them.
     #[tactic(auto, using(crate::proofs::Frame::small_begin, crate::proofs::Frame::small_turn, crate::proofs::Frame::small_end))]
     fn any_small(&self, i: usize) -> bool
         requires { i + 4 ≤ 24 }
@@ -445,20 +443,16 @@ impl From<[Batch; 6]> for States {
     }
 }
 
-// And back. The six calls are the table of the batches' places.
+// And back.
 impl From<States> for [Batch; 6] {
     ghost from_gives = { λ s fs. fs ≡ filters_of s };
 
-    #[tactic(auto, unfolding(crate::specs::OnePass::filters_of, ground::specs::Frames::tab))]
     fn from(states: States) -> [Batch; 6] {
-        [
-            states.batch_at(0, 4),
-            states.batch_at(1, 4),
-            states.batch_at(2, 4),
-            states.batch_at(3, 4),
-            states.batch_at(16, 1),
-            states.batch_at(20, 1),
-        ]
+        let mut mode_filters = cleared();
+        for b in 0..6 {
+            mode_filters[b] = states.batch_at(place_first(b), place_apart(b));
+        }
+        mode_filters
     }
 }
 
@@ -530,7 +524,7 @@ impl Modes {
         add_batches(y, &bands)
     }
 
-    // A frame, the modes tested where small ones may be.
+    // A frame, the modes tested where small ones may be. The flags are found at run time, and choose an instance whose loops have ends that the compiler knows.
     pub fn frame_at(&self, quiet: Quiet, states: &mut States, x: f32, y: f32) -> f32
         ensures { (states.new, result) ≡ frame_of self.now states.old x y }
     {
@@ -603,7 +597,7 @@ impl Resonator {
         }
     }
 
-    // The six batches in one pass over the frames.
+    // The six batches in one pass over the frames. The parameters are those of the Rust's `process`.
     pub fn process(
         self,
         f0: f32,
