@@ -74,16 +74,23 @@ pub fn knobs_of(row: &[u32; 64]) -> Knobs {
     }
 }
 
+// The frames of a block, of any word.
+pub fn frames(word: u32) -> usize
+    ensures { (result ≤ 4096) × (result ≡ word % 4097) }
+{
+    (word % 4097) as usize
+}
+
 // The frames of a voice's block; none above 4096.
 pub fn frames_of(row: &[u32; 64]) -> Option<usize>
     ensures frames { IfSome result (λ n. (n ≡ slice_index row.now 2) × (n ≤ 4096)) }
     ensures none { IfNone result (4096 < slice_index row.now 2) }
 {
-    let n = row[2] as usize;
-    if n > 4096 {
+    let word = row[2];
+    if word > 4096 {
         return None;
     }
-    Some(n)
+    Some(frames(word))
 }
 
 // N samples for each of the four buffers that a render is lent.

@@ -1,30 +1,30 @@
 // The inputs of the record's cases, the shapes of drawn words, and the contents of buffers.
 use ground::bits::{float_of, pattern_of};
-use ground::random::get_word;
-
-// The word as a float of 0 to 1, both included.
-fn unit(w: u32) -> f32 {
-    std::num::nearest_u32_to_f32(w) / 4294967296.0
-}
+use ground::random::{get_float, get_word, noise};
 
 // The word s in the shape of that number; 0 where there is none.
-// By the nibble of the record, since an enum would name each line of this match once more and no other function tells one shape from another.
+// By the nibble of the record, since an enum would name each line of this match once more and `is_shape` asks only whether there is one.
 fn shaped(shape: u32, s: u32) -> u32 {
     match shape {
         1 => s,
         2 => s % 2 * 0x8000_0000 + s / 2 % 0x5f80_0000,
-        3 => pattern_of(unit(s)),
-        4 => pattern_of(2.0 * unit(s) - 1.0),
-        5 => pattern_of(unit(s) * 2048.0),
-        6 => pattern_of(unit(s) * 240.0 - 120.0),
+        3 => pattern_of(get_float(s)),
+        4 => pattern_of(noise(s)),
+        5 => pattern_of(get_float(s) * 2048.0),
+        6 => pattern_of(get_float(s) * 240.0 - 120.0),
         7 => s % 2,
         8 => s % 64,
         9 => s % 1500,
         10 => s % 4097,
-        11 => pattern_of(unit(s) * 0.5),
-        12 => pattern_of(unit(s) * 100.0 + 0.5),
+        11 => pattern_of(get_float(s) * 0.5),
+        12 => pattern_of(get_float(s) * 100.0 + 0.5),
         _ => 0,
     }
+}
+
+// Whether a nibble is the number of a shape, or 0 for an input that is not in use.
+pub fn is_shape(nibble: u32) -> bool {
+    nibble <= 12
 }
 
 // The inputs of the next case of a run, by the generator's word; nibble k of the shapes, from the lowest, is the shape of input k.
@@ -42,11 +42,7 @@ pub fn draw(shapes: u32, word: &mut u32) -> [u32; 8] {
 
 // A sample of a buffer from the seed word z: any float where z % 8 is 7, else a float of -1 to 1.
 pub fn sample(z: u32, w: u32) -> f32 {
-    if z % 8 == 7 {
-        float_of(w)
-    } else {
-        2.0 * unit(w) - 1.0
-    }
+    if z % 8 == 7 { float_of(w) } else { noise(w) }
 }
 
 // Fills a buffer with the samples from a seed word.

@@ -18,6 +18,7 @@ pub fn text_length(header: &[u8]) -> usize
 }
 
 // The number that the decimal digits before the end make.
+// A fold, since the library's parse asks for a str that is all digits and this text is bytes that only end with them.
 pub fn trailing_number(text: &[u8]) -> u32 {
     text.iter().fold(0, |number: u32, &byte| match byte {
         b'0'..=b'9' => number.wrapping_mul(10).wrapping_add(u32::from(byte - b'0')),

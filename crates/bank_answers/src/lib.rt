@@ -31,6 +31,7 @@ fn digest_of_slot(slot: &Slot) -> u32 {
 }
 
 // What a call adds: a list begins, or a block was rendered.
+// No arm is that of a voice's match: a list begins a sequence where a voice's opening does, and a render that was refused is no block.
 fn adds_of(kind: Option<Kind>, row: &[u32; 64]) -> Sums {
     match kind {
         Some(Kind::ListBegins) => Sums {

@@ -8,10 +8,14 @@ pub mod random;
 pub mod tables;
 
 ghost use Rattle.std.specs.Prelude.{◌≡◌, ◌-◌, ◌≤◌, ◌++◌, replicate};
+ghost use Rattle.leaf_answers.specs.Functions.{Decodes};
 
 use answers::replay::NOTHING;
 use answers::words::{low, padded};
 use ground::bits::{float_of, pattern_of};
+
+// The words that a record holds where there is no answer.
+pub const NO_ANSWER: [u32; 7] = [NOTHING; 7];
 
 // Each function, with the record's number of it.
 #[derive(Clone, Copy, PartialEq, Eq)]
@@ -47,9 +51,34 @@ pub struct UnknownFunction(pub u32);
 impl TryFrom<u32> for Function {
     type Error = UnknownFunction;
 
+    ghost try_from_gives = { Decodes };
+
     fn try_from(word: u32) -> Result<Function, UnknownFunction> {
-        let found = Function::ALL.iter().find(|f| **f as u32 == word);
-        found.copied().ok_or(UnknownFunction(word))
+        match word {
+            1 => Ok(Function::WholePart),
+            2 => Ok(Function::Fraction),
+            3 => Ok(Function::Min),
+            4 => Ok(Function::Clamp),
+            5 => Ok(Function::Abs),
+            6 => Ok(Function::Random),
+            7 => Ok(Function::Dust),
+            8 => Ok(Function::Interpolate),
+            9 => Ok(Function::OnePole),
+            10 => Ok(Function::Crossfade),
+            11 => Ok(Function::ParameterInterpolator),
+            12 => Ok(Function::Tan),
+            13 => Ok(Function::DcBlocker),
+            14 => Ok(Function::SvfProcess),
+            15 => Ok(Function::SvfProcessBuffer),
+            16 => Ok(Function::DelayLineReads),
+            17 => Ok(Function::Allpass),
+            18 => Ok(Function::Reset),
+            19 => Ok(Function::CosineOscillator),
+            20 => Ok(Function::Amplitudes),
+            21 => Ok(Function::SemitonesToRatio),
+            22 => Ok(Function::Tables),
+            _ => Err(UnknownFunction(word)),
+        }
     }
 }
 
@@ -80,6 +109,7 @@ impl Function {
         Function::Tables,
     ];
 
+    // A match that gives the str itself, which a line's name needs; `Display` would write it to a formatter.
     pub fn name(self) -> &'static str {
         match self {
             Function::WholePart => "whole_part",
@@ -124,12 +154,19 @@ impl Function {
     }
 }
 
-// What the port answers, where the function is asked such inputs; none uses the last.
+// The number of inputs that the function of that number uses; 0 where none has it, since a record may hold any number.
+pub fn inputs_used(number: u32) -> usize
+    ensures { result ≤ 7 }
+{
+    Function::try_from(number).map_or(0, Function::inputs_used)
+}
+
+// What the port answers to inputs; none uses the last.
 // A match, since a table of closures would need them all of one form and says no more than the arms.
-pub fn answer(function: Function, inputs: [u32; 8]) -> Option<[u32; 7]> {
+fn asked(function: Function, inputs: [u32; 8]) -> [u32; 7] {
     let [a, b, c, d, ..] = inputs;
     let [x, y, z, ..] = inputs.map(float_of);
-    Some(match function {
+    match function {
         Function::WholePart => halves(ground::floats::whole_part(x)),
         Function::Fraction => one(ground::floats::fraction(x)),
         Function::Min => one(ground::floats::min(x, y)),
@@ -143,7 +180,7 @@ pub fn answer(function: Function, inputs: [u32; 8]) -> Option<[u32; 7]> {
         Function::Interpolate => one(utils::interpolate(x)),
         Function::OnePole => one(utils::one_pole(x, y, z)),
         Function::Crossfade => one(utils::crossfade(x, y, z)),
-        Function::ParameterInterpolator => interpolation::parameter_interpolator(a, b, c, d)?,
+        Function::ParameterInterpolator => interpolation::parameter_interpolator(a, b, c, d),
         Function::Tan => one(utils::filter::tan(x, filter::approximation(b))),
         Function::DcBlocker => filter::dc_blocker(a, b, c),
         Function::SvfProcess => filter::svf_process(inputs),
@@ -154,13 +191,13 @@ pub fn answer(function: Function, inputs: [u32; 8]) -> Option<[u32; 7]> {
         Function::CosineOscillator => cosine_oscillator::cosine_oscillator(a, b),
         Function::Amplitudes => cosine_oscillator::amplitudes(a),
         Function::SemitonesToRatio => one(utils::units::semitones_to_ratio(x)),
-        Function::Tables => tables::entry(a, b)?,
-    })
+        Function::Tables => tables::entry(a, b),
+    }
 }
 
-// The outputs of a record: the words of nothing where there is no answer.
-pub(crate) fn outputs_of(function: Function, inputs: [u32; 8]) -> [u32; 7] {
-    answer(function, inputs).unwrap_or([NOTHING; 7])
+// What the port answers where the function of that number is asked inputs; a record may hold any number.
+pub fn answer(number: u32, inputs: [u32; 8]) -> [u32; 7] {
+    Function::try_from(number).map_or(NO_ANSWER, |function| asked(function, inputs))
 }
 
 // Outputs, and zeros for those that a function does not use.

@@ -61,14 +61,14 @@ impl Asked<16> for Leaves {
             differ: u32::from(differs),
             ..kind.map_or(Count::default(), |kind| count_of(kind, row))
         };
-        let at = place(records::function_of(row));
+        let at = place(records::number_of(row));
         self.counts[at] = self.counts[at] + more;
     }
 
     // A line for each function, and one for the records that no function has, if any differs.
     fn lines(&self, rt: &impl Print) -> io::Result<()> {
         for function in &Function::ALL {
-            self.counts[place(Some(*function))].line(rt, function.name())?;
+            self.counts[place(*function as u32)].line(rt, function.name())?;
         }
         if self.counts[0].differ > 0 {
             self.counts[0].line(rt, "none")?;

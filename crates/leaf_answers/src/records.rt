@@ -1,5 +1,5 @@
 // A record, and what the port gives to the same question.
-use crate::functions::{self, Function};
+use crate::functions::{Function, answer, inputs_used};
 use answers::words::padded;
 use answers::{digests, draws};
 
@@ -30,15 +30,21 @@ pub(crate) fn kind_of(row: &[u32; 16]) -> Option<Kind> {
     Kind::try_from(row[0] / 65536).ok()
 }
 
+// The number of the function that is asked.
+pub(crate) fn number_of(row: &[u32; 16]) -> u32 {
+    row[0] % 65536
+}
+
 pub(crate) fn function_of(row: &[u32; 16]) -> Option<Function> {
-    Function::try_from(row[0] % 65536).ok()
+    Function::try_from(number_of(row)).ok()
 }
 
 // The raw record of the inputs in use, with the port's outputs.
-fn raw_again(function: Function, row: &[u32; 16]) -> [u32; 16] {
+fn raw_again(row: &[u32; 16]) -> [u32; 16] {
+    let number = number_of(row);
     let inputs = padded(&row[1..9]);
-    let mut given = padded(&row[..function.inputs_used() + 1]);
-    given[9..].copy_from_slice(&functions::outputs_of(function, inputs));
+    let mut given = padded(&row[..inputs_used(number) + 1]);
+    given[9..].copy_from_slice(&answer(number, inputs));
     given
 }
 
@@ -47,7 +53,7 @@ fn raw_again(function: Function, row: &[u32; 16]) -> [u32; 16] {
 fn is_shapes(shapes: u32, used: usize) -> bool {
     let mut rest = shapes;
     for _ in 0..used {
-        if rest % 16 > 12 {
+        if !draws::is_shape(rest % 16) {
             return false;
         }
         rest /= 16;
@@ -56,25 +62,26 @@ fn is_shapes(shapes: u32, used: usize) -> bool {
 }
 
 // The digest record with the digest of the port's answers; none where the run is too long to ask or has shapes that are none.
-fn digest_again(function: Function, row: &[u32; 16]) -> Option<[u32; 16]> {
+fn digest_again(row: &[u32; 16]) -> Option<[u32; 16]> {
     let [first, seed, count, _, shapes, ..] = *row;
-    if count > 65536 || !is_shapes(shapes, function.inputs_used()) {
+    let number = number_of(row);
+    if count > 65536 || !is_shapes(shapes, inputs_used(number)) {
         return None;
     }
     let mut word = seed;
     let mut digest = digests::BEGIN;
     for _ in 0..count {
         let inputs = draws::draw(shapes, &mut word);
-        digest = digests::digest_of(digest, &functions::outputs_of(function, inputs));
+        digest = digests::digest_of(digest, &answer(number, inputs));
     }
     Some(padded(&[first, seed, count, digest, shapes]))
 }
 
 // The record that the port gives to the same question; none where there is no such question.
 pub(crate) fn again(row: &[u32; 16]) -> Option<[u32; 16]> {
-    let function = function_of(row)?;
+    function_of(row)?;
     match kind_of(row)? {
-        Kind::Raw => Some(raw_again(function, row)),
-        Kind::Digest => digest_again(function, row),
+        Kind::Raw => Some(raw_again(row)),
+        Kind::Digest => digest_again(row),
     }
 }

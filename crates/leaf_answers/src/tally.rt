@@ -43,12 +43,9 @@ impl Count {
     }
 }
 
-// The place of a function.
-pub fn place(function: Option<Function>) -> usize
+// The place of the function of that number; 0 where none has it, since a record may hold any number.
+pub fn place(number: u32) -> usize
     ensures { result < 23 }
 {
-    match function {
-        Some(f) => f as usize,
-        None => 0,
-    }
+    Function::try_from(number).map_or(0, |f| f as usize)
 }

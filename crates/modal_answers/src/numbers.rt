@@ -2,14 +2,16 @@
 ghost use Rattle.std.specs.Prelude.{◌≡◌};
 ghost use Rattle.std.specs.List.{fold};
 ghost use Rattle.answers.specs.Digests.{digest_with};
-ghost use Rattle.modal_answers.specs.Numbers.{batch_words, numbers_of};
+ghost use Rattle.modal_answers.specs.Numbers.{batch_words, modes_of, numbers_of};
 
 use answers::digests::{BEGIN, digest_of, digest_with};
 use ground::bits::pattern_of;
 use modal_voice::modal_voice::ModalVoice;
 use modes::resonator::{Batch, ResonatorSvf};
 
-fn modes_of(batch: &Batch) -> [ResonatorSvf; 4] {
+fn modes_of(batch: &Batch) -> [ResonatorSvf; 4]
+    ensures { result ≡ modes_of batch.now }
+{
     [batch.mode_0, batch.mode_1, batch.mode_2, batch.mode_3]
 }
 
@@ -17,16 +19,11 @@ fn modes_of(batch: &Batch) -> [ResonatorSvf; 4] {
 pub fn batch_words(batch: &Batch) -> [u32; 8]
     ensures { result ≡ batch_words batch.now }
 {
-    [
-        pattern_of(batch.mode_0.state_1),
-        pattern_of(batch.mode_1.state_1),
-        pattern_of(batch.mode_2.state_1),
-        pattern_of(batch.mode_3.state_1),
-        pattern_of(batch.mode_0.state_2),
-        pattern_of(batch.mode_1.state_2),
-        pattern_of(batch.mode_2.state_2),
-        pattern_of(batch.mode_3.state_2),
-    ]
+    let modes = modes_of(batch);
+    let mut words = [0; 8];
+    words[..4].copy_from_slice(&modes.map(|m| pattern_of(m.state_1)));
+    words[4..].copy_from_slice(&modes.map(|m| pattern_of(m.state_2)));
+    words
 }
 
 // Digests of the first and of the second states of all modes, batch after batch.

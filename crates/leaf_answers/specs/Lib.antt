@@ -1,0 +1,2 @@
+-- What the contracts of `leaf_answers` cite. Assumes nothing.
+pub mod Functions
