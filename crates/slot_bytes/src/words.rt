@@ -5,6 +5,7 @@ ghost use Rattle.slot_bytes.specs.Words.{words, put_words, each};
 ghost use Rattle.slot_bytes.specs.Layout.{float_in, floats_in, has_no_nan, float_words};
 
 // The k-th word, which written again would change no byte: the library converts four bytes, and this finds them.
+// b has any length, for a word is of no slot in particular, so it, `put_word` and `float_stands` ask that the word ends within b.
 #[tactic(auto, using(crate::proofs::Little::chunk, crate::proofs::Little::word_at, crate::proofs::Stand::word_stands))]
 pub fn word_at(b: &[u8], k: usize) -> u32
     requires { 4 * k + 4 ≤ length b.now }
@@ -34,7 +35,7 @@ fn float_stands(b: &[u8], k: usize) -> bool
 }
 
 // The same of each of n floats from the k-th on. All are looked at, so that the loop has no branch.
-// n is not the length of b: the floats are a part of the bytes.
+// k and n are no slice of the floats alone: the clause speaks of words by their number in the slot, which a part would count from elsewhere.
 pub fn floats_stand(b: &[u8], k: usize, n: usize) -> bool
     requires { 4 * (k + n) ≤ length b.now }
     ensures { (result ≡ has_no_nan (floats_in (words b.now) k n)) × (result ≡ true → put_words k (each float_words (floats_in (words b.now) k n)) b.now ≡ b.now) }
