@@ -9,6 +9,7 @@ use slot_bytes::decode::slots_of;
 use slot_bytes::words::word_at;
 
 // Whether a slot's kind, places, left or flag is bad.
+// Its limits are those of `slots::table`, which asks a decoded slot: they are read here from the bytes, and no slot is decoded.
 #[tactic(auto, unfolding(slots::specs::Table::bad_slot, slot_bytes::specs::Layout::decode_slot, slot_bytes::specs::Layout::slot_in, slot_bytes::specs::Layout::voice_in, slot_bytes::specs::Layout::string_in))]
 fn bad_slot(b: &[u8; 393]) -> bool
     ensures { result ≡ bad_slot (decode_slot b.now) || bad_flag b.now }
@@ -21,7 +22,7 @@ fn bad_slot(b: &[u8; 393]) -> bool
     (kind > 2) | (string >= 1024) | (stretch >= 256) | (left > 1048576) | (flag > 1)
 }
 
-// Whether a slot of the eight is bad.
+// Whether a slot of the eight is bad. The bytes are a slice, as C hands them, so their length is asked here and in `kind_at`.
 fn bad_slots(bytes: &[u8]) -> bool
     requires { length bytes.now ≡ 3144 }
     ensures { result ≡ bad_slots (decode_bank bytes.now).slots || bad_flags (parts 8 bytes.now) }
@@ -37,13 +38,10 @@ pub fn bad(bytes: &[u8], lines: &[f32]) -> bool
     bytes.len() != 3144 || lines.len() != 10240 || bad_slots(bytes)
 }
 
-// The kind of a slot of a bank; where there is no such slot, 0.
+// The kind of a slot of a bank; where there is no such slot, 0 and no `None`: 0 is an empty slot's number, which the definition gives for no slot.
 #[tactic(auto, unfolding(slot_bytes::specs::Layout::decode_slot, slot_bytes::specs::Layout::slot_in), using(slot_bytes::proofs::Parts::slot_of, slot_bytes::proofs::Parts::slot_none))]
 pub fn kind_at(bytes: &[u8], slot: usize) -> u32
     ensures { length bytes.now ≡ 3144 → result ≡ (slot_at (decode_bank bytes.now) slot).kind }
 {
-    match slots_of(bytes).get(slot) {
-        Some(b) => word_at(b, 0),
-        None => 0,
-    }
+    slots_of(bytes).get(slot).map_or(0, |b| word_at(b, 0))
 }

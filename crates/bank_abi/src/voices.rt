@@ -15,6 +15,7 @@ use slots::slots::Kind;
 pub type Drawn = Rendered<()>;
 
 // A string's render: its voice alone is decoded.
+// The bytes are a slice, as C hands them, so their length is asked here, in `render_modal` and in `render`.
 // It and `render_modal` are no generic one: each decodes, lends and asks for something else.
 fn render_string(
     bytes: &mut [u8],
@@ -70,7 +71,8 @@ fn render_modal(
     after.with(())
 }
 
-// A render, by the slot's kind, which is the number in its bytes; the caller tells `around` at each call.
+// A render, by the slot's kind; the caller tells `around` at each call.
+// `kind` is the number in the slot's bytes, which may hold any, so it is no `Kind`.
 // Each voice's is called twice, so that the compiler leaves it a function of its own, whose loop has all registers.
 pub fn render(
     around: bool,
