@@ -14,8 +14,9 @@ use string_voice::string_voice::StringVoice;
 // The line memory of a slot. Its part is cut at each call, since a function that lent it on could say what it leaves only by a starred clause.
 const LINES: usize = 1280;
 
-// An opening, whatever the slot held. `kind` is the number that the call was given, of which its clause speaks.
-// Lines are a slice whose length is asked, as C hands them, and belong to no slot alone: a struct of them with slot and rate would be made for one call.
+// An opening, whatever the slot held. A caller may hand any number past 0 for `kind`, and a `Kind` would ask more.
+// Slot, kind and rate are told apart by the definition, as `opening kind` and a slot: a struct of them would be made in every caller for one call.
+// Lines are a slice whose length is asked, as C hands them, and belong to no slot alone.
 pub fn open(lines: &mut [f32], slot: usize, kind: u32, sample_rate_hz: f32) -> Slot
     requires { (slot < 8) × (length lines.old ≡ 10240) × (0 < kind) }
     ensures { (x : Slot) (w : ℕ) → moved_by (opening kind sample_rate_hz) slot x w lines.old
@@ -50,7 +51,8 @@ pub fn reset(x: Slot, lines: &mut [f32], slot: usize) -> Slot
 }
 
 // A render of a string's voice. `IsAlike` is no invariant of `Buffers`, since a call may lend buffers of any lengths.
-// Word, slot and knobs go beside the buffers: a proof does not follow a struct that holds a loan and is passed on whole.
+// Word, slot and knobs are told apart by the definition, as `render k`, a slot and a word: a struct of them would be made in every caller for one call.
+// They go beside the buffers, since a proof does not follow a struct that holds a loan and is passed on whole.
 #[tactic(auto, using(crate::proofs::Places::good_part))]
 pub fn render_string(
     voice: StringVoice,

@@ -9,7 +9,7 @@ use noise::excitation::Knobs;
 use slots::answers::{Answer, NO_COUNTS};
 use slots::slots::Bank;
 
-// The bank after an opening or a reset, and the answer.
+// The bank after an opening or a reset, and the answer. Neither draws anything, so it has no word and is no `Rendered`.
 #[derive(Clone, Copy)]
 pub struct Opened {
     pub bank: Bank,

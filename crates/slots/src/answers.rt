@@ -32,7 +32,7 @@ pub type Verdict = Result<(), Reason>;
 
 pub type Answer = Result<Counts, Reason>;
 
-// The counts of a call that draws nothing.
+// The counts of a call that draws nothing: a const has the name that the contracts say, which a `default()` has not.
 pub const NO_COUNTS: Counts = Counts {
     burst: 0,
     dust: 0,

@@ -12,14 +12,15 @@ use noise::buffers::Buffers;
 use noise::excitation::Knobs;
 use string_voice::string_voice::StringVoice;
 
-// Whether buffers have one length, which the bank accepts. No crate of the bank stands below this one, and `==` of slices would compare what stands in them.
+// Whether buffers have one length, which the bank accepts; no crate of the bank stands below this one.
+// It is told lengths and no slices: C hands them beside each pointer, and the definition speaks of sizes alone.
 fn alike(temp: usize, temp_2: usize, out: usize, aux: usize) -> bool
     ensures { result ≡ alike_sizes temp temp_2 out aux }
 {
     (temp == out) & (temp_2 == out) & (aux == out) & (out < 4097)
 }
 
-// Whether lines and buffers have a string voice's sizes, by their lengths alone.
+// Whether lines and buffers have a string voice's sizes; it is told lengths for the same reason.
 fn fits(lines: usize, temp: usize, temp_2: usize, out: usize, aux: usize) -> bool
     ensures { result ≡ sizes_fit lines temp temp_2 out aux }
 {
