@@ -32,7 +32,7 @@ pub struct Rendered<V> {
 }
 
 impl<V: Copy> Rendered<V> {
-    // The same beside another voice.
+    // The same beside another voice. Field by field, since a struct update cannot change the voice's type.
     pub fn with<W>(self, voice: W) -> Rendered<W>
         ensures { result ≡ record { voice = voice; word = self.word; counts = self.counts } }
     {

@@ -113,6 +113,7 @@ fn sound_frames(
     ensures temp { b.new.temp.now ≡ b.old.temp.now }
     ensures same { IsSame b.new b.old }
 {
+    // each by itself: a pattern that takes `b` apart leaves two `&mut` before each buffer, which the proof of a call that is lent one does not see through
     let temp = &mut *b.temp;
     let temp_2 = &mut *b.temp_2;
     let out = &mut *b.out;

@@ -94,7 +94,7 @@ pub struct Bent {
     pub guess: usize,
 }
 
-// What is read off the lines, and the stretch line's next place.
+// What is read off the lines, and the stretch line's next place; by name, as what the all-pass gives.
 #[derive(Clone, Copy)]
 pub struct Heard {
     pub s: f32,
