@@ -2,3 +2,4 @@
 pub mod Counts
 pub mod Digests
 pub mod Kinds
+pub mod Samples

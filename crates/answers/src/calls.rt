@@ -1,6 +1,8 @@
 // A recorded call of a voice or of a bank: the words that all have, its buffers, and what calls add up to.
-ghost use Rattle.std.specs.Prelude.{◌≡◌, ◌+◌, ◌%◌, ◌^◌, ◌<◌, ◌≤◌, slice_index, IfSome, IfNone};
+ghost use Rattle.std.specs.Prelude.{◌≡◌, ◌+◌, ◌%◌, ◌^◌, ◌<◌, ◌≤◌, slice_index, replicate, IfSome, IfNone};
+ghost use Rattle.ground.specs.F32.{c0};
 ghost use Rattle.answers.specs.Kinds.{Decodes};
+ghost use Rattle.answers.specs.Samples.{samples, from_seed, patterns, with_buffers};
 
 use crate::digests::digest_of_buffer;
 use crate::replay::Compared;
@@ -103,7 +105,9 @@ pub struct Samples<const N: usize> {
 }
 
 // A buffer with the samples from a seed word.
-fn filled<const N: usize>(seed: u32) -> [f32; N] {
+fn filled<const N: usize>(seed: u32) -> [f32; N]
+    ensures { result ≡ samples seed (replicate N c0) }
+{
     let mut buffer = [0.0; N];
     draws::fill(&mut buffer, seed);
     buffer
@@ -111,7 +115,10 @@ fn filled<const N: usize>(seed: u32) -> [f32; N] {
 
 impl<const N: usize> Samples<N> {
     // The samples from a seed word and from the three after it.
-    pub fn from_seed(z: u32) -> Samples<N> {
+    #[tactic(auto, unfolding(crate::specs::Samples::from_seed))]
+    pub fn from_seed(z: u32) -> Samples<N>
+        ensures { result ≡ from_seed N z }
+    {
         Samples {
             temp: filled(z),
             temp_2: filled(z.wrapping_add(1)),
@@ -121,9 +128,21 @@ impl<const N: usize> Samples<N> {
     }
 }
 
+// The patterns of samples over words, as many as both have.
+fn write_patterns(samples: &[f32], words: &mut [u32])
+    ensures { words.new ≡ patterns samples.now words.old }
+{
+    let n = samples.len().min(words.len());
+    // by index: a proof knows nothing of what a zip with `iter_mut` wrote
+    for i in 0..n {
+        words[i] = pattern_of(samples[i]);
+    }
+}
+
 // Writes the digests of four buffers to a row from a place on, and the first samples of out from another.
 pub fn write_buffers(row: &mut [u32; 64], at: usize, samples_at: usize, b: &Buffers)
     requires { (at + 4 ≤ 64) × (samples_at + 16 ≤ 64) }
+    ensures { row.new ≡ with_buffers at samples_at b.now row.old }
 {
     let digests = [
         digest_of_buffer(b.temp),
@@ -132,12 +151,7 @@ pub fn write_buffers(row: &mut [u32; 64], at: usize, samples_at: usize, b: &Buff
         digest_of_buffer(b.aux),
     ];
     row[at..at + 4].copy_from_slice(&digests);
-    for (word, x) in row[samples_at..samples_at + 16]
-        .iter_mut()
-        .zip(b.out.iter())
-    {
-        *word = pattern_of(*x);
-    }
+    write_patterns(b.out, &mut row[samples_at..samples_at + 16]);
 }
 
 // What calls add up to.

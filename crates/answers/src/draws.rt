@@ -1,4 +1,7 @@
 // The inputs of the record's cases, the shapes of drawn words, and the contents of buffers.
+ghost use Rattle.std.specs.Prelude.{◌≡◌, leb};
+ghost use Rattle.answers.specs.Samples.{sample_of, samples};
+
 use ground::bits::{float_of, pattern_of};
 use ground::random::{get_float, get_word, noise};
 
@@ -23,7 +26,9 @@ fn shaped(shape: u32, s: u32) -> u32 {
 }
 
 // Whether a nibble is the number of a shape, or 0 for an input that is not in use.
-pub fn is_shape(nibble: u32) -> bool {
+pub fn is_shape(nibble: u32) -> bool
+    ensures { result ≡ leb nibble 12 }
+{
     nibble <= 12
 }
 
@@ -41,14 +46,19 @@ pub fn draw(shapes: u32, word: &mut u32) -> [u32; 8] {
 }
 
 // A sample of a buffer from the seed word z: any float where z % 8 is 7, else a float of -1 to 1.
-pub fn sample(z: u32, w: u32) -> f32 {
+#[tactic(auto, unfolding(crate::specs::Samples::sample_of))]
+pub fn sample(z: u32, w: u32) -> f32
+    ensures { result ≡ sample_of z w }
+{
     if z % 8 == 7 { float_of(w) } else { noise(w) }
 }
 
 // Fills a buffer with the samples from a seed word.
-pub fn fill(buffer: &mut [f32], seed: u32) {
+pub fn fill(buffer: &mut [f32], seed: u32)
+    ensures { buffer.new ≡ samples seed buffer.old }
+{
     let mut w = seed;
-    for x in buffer {
+    for x in buffer.iter_mut() {
         w = get_word(w);
         *x = sample(seed, w);
     }

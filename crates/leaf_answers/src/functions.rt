@@ -110,7 +110,7 @@ impl Function {
     ];
 
     // A match that gives the str itself, which a line's name needs; `Display` would write it to a formatter.
-    pub fn name(self) -> &'static str {
+    pub(crate) fn name(self) -> &'static str {
         match self {
             Function::WholePart => "whole_part",
             Function::Fraction => "fraction",

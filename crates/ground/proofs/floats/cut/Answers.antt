@@ -11,6 +11,3 @@ overflow_shr-result c = omega (arith, (cut c.args.x c.requires.least c.requires.
 
 pub returns-clause-whole : goal.returns-clause-whole
 returns-clause-whole c = (cut c.args.x c.requires.least c.requires.most).whole
-
-pub returns-clause-small : goal.returns-clause-small
-returns-clause-small c = (cut c.args.x c.requires.least c.requires.most).small

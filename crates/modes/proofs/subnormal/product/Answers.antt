@@ -2,14 +2,8 @@
 use mathlib.Core.Path.{◌∙◌}
 use lib.Ieee.{binary32, of_bits, neg}
 use borrow.Author.Rules.{rules}
-use Rattle.modes.proofs.Grid.{wide_both, small_on_grid}
+use Rattle.modes.proofs.Grid.{small_on_grid}
 use Rattle.modes.proofs.subnormal.product.Goals as goal
-
-pub float_to_float-p : goal.float_to_float-p
-float_to_float-p c = (wide_both c.args.a c.args.b (of_bits binary32 0x7149f2ca) (search rules) (search rules) c.if-not-a-b.false).0
-
-pub float_to_float-p-2 : goal.float_to_float-p-2
-float_to_float-p-2 c = (wide_both c.args.a c.args.b (of_bits binary32 0x7149f2ca) (search rules) (search rules) c.if-not-a-b.false).1
 
 pub returns-then-w : goal.returns-then-w
 unfolding of_bits neg
