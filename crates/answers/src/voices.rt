@@ -22,7 +22,7 @@ pub trait Voice {
     // None where such a voice has no reset.
     fn reset(&mut self) -> Option<()>;
 
-    // The generator's word after a block; none where the voice cannot be asked for one.
+    // The buffers' one length is no invariant, since a call may lend any. The generator's word after a block; none where the voice cannot be asked for one.
     fn render(&mut self, knobs: Knobs, b: &mut Buffers, word: u32) -> Option<u32>
         requires { IsAlike b.old × (length b.old.out.now ≤ 4096) };
 

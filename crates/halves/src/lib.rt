@@ -32,6 +32,7 @@ fn run_tail(k: &Modes, states: &mut States, in_: &[f32], rows: &mut [[f32; 8]; 6
     requires { length in_.now ≤ 64 }
     ensures { (states.new ≡ over (tail_state k.now) states.old in_.now) × Rows k.now states.old in_.now rows.new }
 {
+    // by index: a proof knows nothing of what a zip with `iter_mut` wrote
     for i in 0..in_.len() {
         tail_frame(k, states, &mut rows[i], in_[i]);
     }
@@ -61,6 +62,7 @@ fn run_head(k: &Modes, states: &mut States, in_: &[f32], out: &mut [f32], rows: 
     requires { (length in_.now ≤ 64) × (length in_.now ≡ length out.old) × ((j : ℕ) → j < length in_.now → Fitting (row_at rows.now j)) }
     ensures { (states.new, out.new) ≡ head_pass k.now rows.now states.old in_.now out.old }
 {
+    // by index: a proof knows nothing of what a zip with `iter_mut` wrote
     for i in 0..in_.len() {
         out[i] = head_frame(k, states, &rows[i], in_[i], out[i]);
     }

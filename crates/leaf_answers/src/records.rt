@@ -30,7 +30,7 @@ pub(crate) fn kind_of(row: &[u32; 16]) -> Option<Kind> {
     Kind::try_from(row[0] / 65536).ok()
 }
 
-// The number of the function that is asked.
+// The number of the function that is asked: a record may hold any.
 pub(crate) fn number_of(row: &[u32; 16]) -> u32 {
     row[0] % 65536
 }

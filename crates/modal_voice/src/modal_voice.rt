@@ -164,6 +164,7 @@ fn frames_in_one<const AROUND: bool>(
     let aux = &mut *b.aux;
     let mut quiet = Quiet::default();
     let mut ahead = Passed::first(filter, temp);
+    // by index: the filter reads a frame ahead, and four buffers are written
     for i in 0..temp.len() {
         let x = ahead.out;
         ahead = ahead.on(temp, i);
@@ -188,6 +189,7 @@ fn filter_frames(
     ensures { ((result, temp_2.new) ≡ low_pass filter temp.now temp_2.old) × (aux.new ≡ added temp_2.new aux.old) }
 {
     let mut passed = Passed::first(filter, temp);
+    // by index: the filter reads a frame ahead
     for i in 0..temp.len() {
         let given = passed.out;
         passed = passed.on(temp, i);

@@ -197,6 +197,7 @@ pub fn read_all<T: Record, const N: usize>(b: &[u8], k: usize) -> [T; N]
     ensures { result ≡ tab N (λ i. T.from_words (words b.now) (k + T.WORDS * i)) }
 {
     let mut a = [T::read(b, k); N];
+    // by index: an element stands T::WORDS on for each before it
     for i in 0..N {
         a[i] = T::read(b, k + T::WORDS * i);
     }
@@ -208,6 +209,7 @@ pub fn write_all<T: Record, const N: usize>(a: [T; N], b: &mut [u8], k: usize)
     requires { 4 * (k + T.WORDS * N) ≤ length b.old }
     ensures { (b.new ≡ put_words k (each T.to_words a) b.old) × All T.is_f32 N a }
 {
+    // by index: an element stands T::WORDS on for each before it
     for i in 0..N {
         a[i].write(b, k + T::WORDS * i);
     }

@@ -31,7 +31,7 @@ pub struct Strung {
     pub drawn: usize,
 }
 
-// The cutoff of the excitation filter. The modal voice's, and its excitation, are the same text with other numbers in the Rust, which has each by itself.
+// The cutoff of the excitation filter. The modal voice's has other numbers in three places, and its excitation a strike: one function of both would be told which at each.
 #[tactic(auto, unfolding(crate::specs::StringVoice::cutoff_for, crate::specs::StringVoice::exciter_semitones))]
 fn cutoff_for(k: Knobs) -> f32
     ensures { result ≡ cutoff_for k }

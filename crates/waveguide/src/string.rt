@@ -157,7 +157,7 @@ fn delay_of(f0: f32) -> f32
     ground::floats::clamp(1.0 / f0, 4.0, 1020.0)
 }
 
-// x, and 1 where the ratio is close to 1.
+// x, and 1 where the ratio is close to 1. The ratio is a number, and both the ratio itself and the phase go through it.
 fn snapped(ratio: f32, x: f32) -> f32
     ensures { result ≡ snap ratio x }
 {

@@ -31,7 +31,7 @@ fn written(line: &mut [f32], seed: u32, writes: u32) -> usize
 }
 
 // What is read of a written line at a delay.
-pub fn reads(size: u32, seed: u32, writes: u32, delay: u32) -> [u32; 7] {
+pub(crate) fn reads(size: u32, seed: u32, writes: u32, delay: u32) -> [u32; 7] {
     let n = size_of(size);
     let mut cells = [0.0f32; 1024];
     let at = written(&mut cells[..n], seed, writes % 1500);
@@ -61,7 +61,7 @@ fn allpasses(
 }
 
 // The last output of all-passes over a written line, the next place, and the digest of the line.
-pub fn allpass(inputs: [u32; 8]) -> [u32; 7] {
+pub(crate) fn allpass(inputs: [u32; 8]) -> [u32; 7] {
     let [size, seed, writes, delay, coefficient, sample, k, _] = inputs;
     let n = size_of(size);
     let mut cells = [0.0f32; 1024];
@@ -79,7 +79,7 @@ pub fn allpass(inputs: [u32; 8]) -> [u32; 7] {
 }
 
 // Clears a written line: the place, and the digests of the line before and after.
-pub fn reset(size: u32, seed: u32, writes: u32) -> [u32; 7] {
+pub(crate) fn reset(size: u32, seed: u32, writes: u32) -> [u32; 7] {
     let n = size_of(size);
     let mut cells = [0.0f32; 1024];
     let line = &mut cells[..n];
