@@ -1,2 +1,2 @@
 -- What the functions of `leaves_abi` are proved equal to.
-pub mod Leaves
+pub mod Buffers

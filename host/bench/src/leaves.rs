@@ -17,7 +17,7 @@ mod raw {
             out: *mut f32,
             out_len: usize,
         );
-        pub fn leaves_read_hermite(
+        pub fn leaves_read_hermites(
             line: *const f32,
             line_len: usize,
             write_ptr: usize,
@@ -47,7 +47,7 @@ pub fn semitones_to_ratio(semitones: &[f32], out: &mut [f32]) {
 pub fn read_hermite(line: &[f32], write_ptr: usize, delays: &[f32], out: &mut [f32]) {
     let (from, to) = (delays, out);
     unsafe {
-        raw::leaves_read_hermite(
+        raw::leaves_read_hermites(
             line.as_ptr(),
             line.len(),
             write_ptr,

@@ -1,9 +1,9 @@
--- `leaves_semitones_to_ratio` meets its contract, by the law of loops over frames.
+-- `buffers::leaves_semitones_to_ratio` meets its contract, by the law of loops over frames.
 use mathlib.Core.Path.{ap}
 use native.Mathlib.Omega.{arith}
 use lib.Ieee.{Float, nan}
 use Rattle.ground.proofs.Frames.{frames_begin, scan_turn, scan_end}
-use Rattle.leaves_abi.proofs.leaves_semitones_to_ratio.Goals as goal
+use Rattle.leaves_abi.proofs.buffers.leaves_semitones_to_ratio.Goals as goal
 
 pub loop-i-init : goal.loop-i-init
 loop-i-init c = frames_begin

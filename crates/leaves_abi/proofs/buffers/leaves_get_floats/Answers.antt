@@ -1,4 +1,4 @@
--- `leaves_get_floats` meets its contract, by the law of loops over frames: a word a frame.
+-- `buffers::leaves_get_floats` meets its contract, by the law of loops over frames: a word a frame.
 -- a turn draws the next word and puts its float
 use mathlib.Core.Path.{◌≡◌}
 use Prim.Native.Nat.{ℕ}
@@ -7,8 +7,8 @@ use lib.Ieee.{Float, nan}
 use Rattle.ground.specs.Draw.{ret, next, run}
 use Rattle.ground.specs.Random.{float_of}
 use Rattle.ground.proofs.Frames.{frames_begin, frames_turn, frames_then}
-use Rattle.leaves_abi.specs.Leaves.{float_step}
-use Rattle.leaves_abi.proofs.leaves_get_floats.Goals as goal
+use Rattle.leaves_abi.specs.Buffers.{float_step}
+use Rattle.leaves_abi.proofs.buffers.leaves_get_floats.Goals as goal
 
 drew : (w v : ℕ) (u y x : Float) → v ≡ next w → u ≡ float_of v → run (float_step tt x y) w ≡ record { value = (tt, u); word = v }
 drew w v u y x e f = rw (f, e)

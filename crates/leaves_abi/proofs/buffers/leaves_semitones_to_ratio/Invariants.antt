@@ -1,8 +1,8 @@
--- `leaves_semitones_to_ratio` meets its contract, by the law of loops over frames.
+-- `buffers::leaves_semitones_to_ratio` meets its contract, by the law of loops over frames.
 use Rattle.ground.proofs.Frames.{Scan}
 use Rattle.utils.specs.Units.{semitones_to_ratio}
-use Rattle.leaves_abi.specs.Leaves.{each}
-use Rattle.leaves_abi.proofs.leaves_semitones_to_ratio.Given as goal
+use Rattle.leaves_abi.specs.Buffers.{each}
+use Rattle.leaves_abi.proofs.buffers.leaves_semitones_to_ratio.Given as goal
 
 abbrev pub invariant-loop-i : goal.invariant-loop-i
 invariant-loop-i l = Scan (each semitones_to_ratio) tt l.semitones l.initial.out l.i tt l.out

@@ -1,9 +1,9 @@
--- `leaves_read_hermite` meets its contract, by the law of loops over frames.
+-- `buffers::leaves_read_hermites` meets its contract, by the law of loops over frames.
 use Rattle.utils.specs.DelayLine.{read_hermite}
 use Rattle.ground.specs.Part.{part}
 use Rattle.ground.proofs.Frames.{Scan}
-use Rattle.leaves_abi.specs.Leaves.{each}
-use Rattle.leaves_abi.proofs.leaves_read_hermite.Given as goal
+use Rattle.leaves_abi.specs.Buffers.{each}
+use Rattle.leaves_abi.proofs.buffers.leaves_read_hermites.Given as goal
 
 abbrev pub invariant-loop-i : goal.invariant-loop-i
 invariant-loop-i l = Scan (each (read_hermite (part 0 1024 l.line) l.write_ptr)) tt l.delays l.initial.out l.i tt l.out

@@ -1,11 +1,11 @@
--- `leaves_read_hermite` meets its contract, by the law of loops over frames.
+-- `buffers::leaves_read_hermites` meets its contract, by the law of loops over frames.
 use mathlib.Core.Path.{ap}
 use native.Mathlib.Omega.{arith}
 use lib.Ieee.{Float, nan}
 use borrow.Author.Tests.{le-ltb, lt-leb}
 use Rattle.ground.specs.Part.{part}
 use Rattle.ground.proofs.Frames.{frames_begin, scan_turn, scan_end}
-use Rattle.leaves_abi.proofs.leaves_read_hermite.Goals as goal
+use Rattle.leaves_abi.proofs.buffers.leaves_read_hermites.Goals as goal
 
 pub loop-i-init : goal.loop-i-init
 loop-i-init c = frames_begin
