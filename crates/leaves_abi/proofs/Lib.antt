@@ -1,0 +1,2 @@
+-- Laws of the structs that cross as lists.
+pub mod Held
