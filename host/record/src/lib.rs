@@ -14,14 +14,14 @@ pub mod rows;
 mod runs;
 pub mod voices;
 
-use std::path::{Path, PathBuf};
+use std::path::PathBuf;
 
 /// The seed from which the random inputs are drawn.
 pub const SEED: u32 = 33;
 
 /// Where the record stands in the repository.
 pub fn leaves_path() -> PathBuf {
-    Path::new(env!("CARGO_MANIFEST_DIR")).join("../../crates/replay/data/leaves.bin")
+    rows::path("leaves")
 }
 
 /// All the records, the raw ones first, each kind by function number.

@@ -10,7 +10,7 @@ pub type Row = [u32; ROW_WORDS];
 
 /// Where the file of that name stands in the repository.
 pub fn path(name: &str) -> PathBuf {
-    let data = Path::new(env!("CARGO_MANIFEST_DIR")).join("../../crates/replay/data");
+    let data = Path::new(env!("CARGO_MANIFEST_DIR")).join("../replay/data");
     data.join(format!("{name}.bin"))
 }
 

@@ -19,7 +19,7 @@ const MEMORY: usize = 16;
 const NUMBER: usize = 17;
 
 fn recorded() -> Vec<u8> {
-    std::fs::read(path(NAME)).expect("crates/replay/data/banks.bin is read")
+    std::fs::read(path(NAME)).expect("host/replay/data/banks.bin is read")
 }
 
 fn rows() -> Vec<Row> {

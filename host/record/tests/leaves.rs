@@ -3,7 +3,7 @@
 use record::format::from_bytes;
 
 fn recorded() -> Vec<u8> {
-    std::fs::read(record::leaves_path()).expect("crates/replay/data/leaves.bin is read")
+    std::fs::read(record::leaves_path()).expect("host/replay/data/leaves.bin is read")
 }
 
 #[test]

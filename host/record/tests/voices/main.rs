@@ -8,7 +8,7 @@ use record::rows::ROW_BYTES;
 use record::voices::format::{Call, Given, Kind, Render, from_bytes};
 
 fn recorded(kind: Kind) -> Vec<u8> {
-    std::fs::read(kind.path()).expect("the file of crates/replay/data is read")
+    std::fs::read(kind.path()).expect("the file of host/replay/data is read")
 }
 
 fn calls(kind: Kind) -> Vec<Call> {
