@@ -20,6 +20,7 @@
 #![warn(missing_docs)]
 
 mod bank;
+pub mod layout;
 pub mod raw;
 mod refusal;
 mod saved;

@@ -1,9 +1,8 @@
 //! A list of calls, made on both sides and compared after each.
 
-use crate::layout;
 use crate::list::List;
 use bleidhvan::raw::{self, Answer, SLOT_BYTES};
-use bleidhvan::{Counts, Knobs};
+use bleidhvan::{Counts, Knobs, layout};
 use record::banks::bank::Bank;
 use record::banks::format::{Asked, Call, Lent, MEMORY};
 use record::draws::{buffer, canonical};

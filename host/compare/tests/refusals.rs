@@ -2,8 +2,8 @@
 //! `REFUSALS` says how many cases are drawn.
 
 use bleidhvan::Knobs;
+use bleidhvan::layout::slot_bytes;
 use bleidhvan::raw::{self, LINES, SLOT_BYTES};
-use compare::layout::slot_bytes;
 use record::banks::format::{Asked, Call};
 use record::banks::table::{self, Numbers};
 use record::draws::{next, unit};

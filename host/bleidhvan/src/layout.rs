@@ -1,12 +1,13 @@
 //! The bytes of a bank, read by docs/ABI.md.
 
-use bleidhvan::raw::SLOT_BYTES;
+use crate::raw::SLOT_BYTES;
 
 /// The NaN that stands for every NaN.
 const NAN: u32 = 0x7fc0_0000;
 
-/// The words of a slot's bytes that are numbers and not floats.
-const NUMBERS: [usize; 4] = [KIND, STRING, STRETCH, LEFT];
+/// The words of a slot's bytes that are numbers and not floats: the kind, the write places of the string line and of the stretch
+/// line, and what is left of the burst.
+pub const NUMBERS: [usize; 4] = [KIND, STRING, STRETCH, LEFT];
 
 const KIND: usize = 0;
 const STRING: usize = 6;
@@ -32,7 +33,7 @@ fn word(slot: &[u8], place: usize) -> u32 {
 /// A slot's record in the order of docs/RECORD.md.
 pub fn record(slot: &[u8]) -> Vec<u32> {
     let words = |from: usize, to: usize| (from..to).map(|place| word(slot, place));
-    let mut record: Vec<u32> = [KIND, STRING, STRETCH, LEFT].map(|place| word(slot, place)).into();
+    let mut record: Vec<u32> = NUMBERS.map(|place| word(slot, place)).into();
     record.extend(words(1, STRING));
     record.extend(words(STRETCH + 1, LEFT));
     record.push(slot[HELD].into());
