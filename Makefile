@@ -2,10 +2,11 @@
 # make test: the whole gate, whose last line is 'N passed, 0 failed'.
 # make bench: the speed of the leaves, of both voices and of the exported calls beside the Rust's, as ratios.
 # make compare: two million blocks of random and extreme lists, in the exported bank and in the Rust.
+# make replay: the recorded answers of the Rust, asked of the exported functions again.
 # make record: the oracle's answers for the program replay, written anew.
 # make mutants: two wrong programs for every function that has a contract, made by chance, each of which must be refused; some 40 minutes.
 
-.PHONY: render test bench compare record mutants
+.PHONY: render test bench compare replay record mutants
 
 SHELL := bash
 .SHELLFLAGS := -o pipefail -c
@@ -32,6 +33,9 @@ bench: $(libraries)/libleaves_abi.a $(libraries)/libvoices_abi.a $(libraries)/li
 
 compare: $(libraries)/libbank_abi.a
 	@host/cargo run --quiet --release -p compare -- --seed 2026 --blocks 2000000
+
+replay: $(libraries)/libbank_abi.a $(libraries)/libleaves_abi.a
+	@host/cargo run --quiet --release -p replay
 
 record:
 	@host/cargo run --quiet --release -p record
