@@ -41,7 +41,7 @@ fn most(kind: u32) -> Option<[u32; GIVEN]> {
 struct Sums {
     lists: u32,
     blocks: u32,
-    samples: u32,
+    samples: u64,
     /// How many calls got each of 01's numbers.
     numbers: [u32; 14],
 }
@@ -55,7 +55,7 @@ impl Sums {
         }
         if kind == RENDER && number == 0 {
             self.blocks += 1;
-            self.samples += row[2];
+            self.samples += u64::from(row[2]);
         }
     }
 }

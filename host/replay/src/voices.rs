@@ -78,7 +78,7 @@ fn most(kind: u32) -> Option<[u32; 11]> {
 struct Sums {
     sequences: u32,
     blocks: u32,
-    samples: u32,
+    samples: u64,
 }
 
 impl Sums {
@@ -86,7 +86,7 @@ impl Sums {
         self.sequences += u32::from(call[0] == OPENING);
         if call[0] == RENDER {
             self.blocks += 1;
-            self.samples += call[2];
+            self.samples += u64::from(call[2]);
         }
     }
 }

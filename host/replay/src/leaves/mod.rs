@@ -38,10 +38,10 @@ fn asked(record: &[u32]) -> Option<(usize, Kind)> {
 /// What was compared of a function.
 #[derive(Clone, Copy, Default)]
 struct Count {
-    raw: u32,
-    digests: u32,
-    cases: u32,
-    differ: u32,
+    raw: u64,
+    digests: u64,
+    cases: u64,
+    differ: u64,
 }
 
 impl Count {
@@ -50,10 +50,10 @@ impl Count {
             Kind::Raw => self.raw += 1,
             Kind::Digest => {
                 self.digests += 1;
-                self.cases += record[2];
+                self.cases += u64::from(record[2]);
             }
         }
-        self.differ += u32::from(differs);
+        self.differ += u64::from(differs);
     }
 }
 
@@ -78,7 +78,7 @@ pub fn replay(records: &[Vec<u32>], port: &mut dyn Port) -> Report {
         let Count { raw, cases, differ, .. } = count;
         format!("{}: {raw} raw, {cases} by digest, {differ} differ", function.name)
     }));
-    let sum = |of: fn(&Count) -> u32| counts.iter().map(of).sum::<u32>();
+    let sum = |of: fn(&Count) -> u64| counts.iter().map(of).sum::<u64>();
     let (raw, digests, cases) = (sum(|c| c.raw), sum(|c| c.digests), sum(|c| c.cases));
     let differ = report.differ;
     report
