@@ -11,7 +11,7 @@ fn word_of(place: usize) -> u32 {
 
 /// A new line with the samples of input 1 written, as many as input 2 says, and the next place.
 fn written(port: &mut dyn Port, inputs: &Inputs) -> (Vec<f32>, usize) {
-    let size = if inputs[0] % 2 == 0 { 1024 } else { 256 };
+    let size = if inputs[0].is_multiple_of(2) { 1024 } else { 256 };
     let (mut line, mut write_ptr) = (vec![0.0; size], 0);
     for sample in buffer((inputs[2] % 1500) as usize, inputs[1]) {
         write_ptr = port.line_write(&mut line, write_ptr, sample);
