@@ -216,3 +216,39 @@ fn what_an_opening_and_a_reset_set_to_0() {
         assert!(differ(Forgets { lines: true, ..none() }) > 5, "{}", file.name());
     }
 }
+
+/// The libraries, but that the first sample of out is wrong where that is said of subnormal numbers.
+struct WrongWhere {
+    slow_subnormals: bool,
+}
+
+impl Port for WrongWhere {
+    fn render(
+        &mut self,
+        bank: &mut [u8],
+        lines: &mut [f32],
+        word: &mut u32,
+        slot: usize,
+        knobs: &Knobs,
+        mut buffers: Buffers<'_>,
+        slow_subnormals: bool,
+    ) -> Answer {
+        let lent = buffers.each_mut().map(|buffer| &mut buffer[..]);
+        let answer = Libraries.render(bank, lines, word, slot, knobs, lent, slow_subnormals);
+        if slow_subnormals == self.slow_subnormals {
+            buffers[2].iter_mut().take(1).for_each(turn);
+        }
+        answer
+    }
+}
+
+#[test]
+fn both_ways_with_subnormal_numbers() {
+    for file in [Strings, Modals, Banks] {
+        for slow_subnormals in [false, true] {
+            let mut port = WrongWhere { slow_subnormals };
+            let report = replay(file, &recorded(file), &mut port).expect("the file is well formed");
+            assert!(report.differ > 400, "{}, slow {slow_subnormals}: {report}", file.name());
+        }
+    }
+}
