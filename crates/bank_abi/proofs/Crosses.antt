@@ -20,7 +20,6 @@ use Rattle.bank.proofs.Accepted.{Sound, whole, begun}
 use Rattle.ground.proofs.Bools.{or_false}
 use Rattle.ground.proofs.Part.{length_part}
 use Rattle.ground.proofs.Draw.{always_run, draws_always}
-use Rattle.claims.specs.Claim.{InF32}
 use Rattle.claims.specs.Ledger.{entry}
 use Rattle.claims.proofs.Acts.{OkSlot, Follows, led_of, act_law}
 use Rattle.slot_bytes.proofs.Parts.{bank_after}

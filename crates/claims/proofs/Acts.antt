@@ -25,10 +25,10 @@ use Rattle.std.specs.Prelude.{Result, Ok, Err}
 use Rattle.slots.specs.declared.answers.Reason.{Reason}
 use Rattle.slots.specs.declared.slots.Slot.{Slot}
 use Rattle.slots.specs.Slots.{no_string}
-use Rattle.slots.specs.Calls.{Bufs, Act, opening, reset, render, Voice, Done, open_def, reset_def, string_def, modal_def, render_def, act_def}
+use Rattle.slots.specs.Calls.{Bufs, Act, opening, reset, render, InF32, Voice, Done, open_def, reset_def, string_def, modal_def, render_def, act_def}
 use Rattle.slots.specs.Table.{Check, first, within, lowest, alike, checks}
 use Rattle.claims.specs.Ledger.{Led, Entry, string_entry, modal_entry, render_entry, entry}
-use Rattle.claims.specs.Claim.{total, InF32}
+use Rattle.claims.specs.Claim.{total}
 use Rattle.claims.proofs.Agreement.{left_is, phase_is, dispersion_is}
 
 -- ---- a slot as the ledger has it, and what number 1 asks of it

@@ -23,11 +23,11 @@ use Rattle.slots.specs.declared.answers.Reason.{Reason}
 use Rattle.slots.specs.declared.answers.Reason.TheVariants.{NoSlot}
 use Rattle.slots.specs.Answers.{counts_of}
 use Rattle.slots.specs.Slots.{no_string, empty_slot, slot_at, with_slot}
-use Rattle.slots.specs.Calls.{Done, act_def}
+use Rattle.slots.specs.Calls.{InF32, Done, act_def}
 use Rattle.slots.specs.Table.{Call, first, checks, verdict, bad_slot, bad_slots, bad}
 use Rattle.bank.specs.World.{World, lines_at, with_lines, voice_at, Event, call_by, call_def}
 use Rattle.claims.specs.Ledger.{Led, fresh_led, Entry, entry, Line, line_by, line_of}
-use Rattle.claims.specs.Claim.{nothing, given, feed, of_done, hear, seen, total, InF32}
+use Rattle.claims.specs.Claim.{nothing, given, feed, of_done, hear, seen, total}
 use Rattle.claims.proofs.Acts.{led_of, OkSlot, Follows, ByLedger, passed, act_law}
 
 map_set : {A B : Type 0} (f : A → B) (l : List A) (i : ℕ) (y : A) → map f (set l i y) ≡ set (map f l) i (f y)

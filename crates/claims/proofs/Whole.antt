@@ -19,11 +19,11 @@ use Rattle.slots.specs.declared.answers.Reason.{Reason}
 use Rattle.slots.specs.declared.answers.Reason.TheVariants.{Memory}
 use Rattle.slots.specs.Answers.{counts_of, number_of}
 use Rattle.slots.specs.Slots.{no_string, empty_slot, fresh}
-use Rattle.slots.specs.Calls.{Voice}
+use Rattle.slots.specs.Calls.{InF32, Voice}
 use Rattle.slots.specs.Table.{Call, first, verdict, bad}
 use Rattle.bank.specs.World.{World, start, lines_at, voice_at, Event, call_by, call_def, run_from, end_from}
 use Rattle.claims.specs.Ledger.{Led, fresh_led, Line, line_by, line_of, ledger_from, ledger}
-use Rattle.claims.specs.Claim.{Feed, feed, feeds, Heard, hear, note, go_on, alone, seen, sum_of, total, drawn, dealt, Kept, Account, InF32, Demand3}
+use Rattle.claims.specs.Claim.{Feed, feed, feeds, Heard, hear, note, go_on, alone, seen, sum_of, total, drawn, dealt, Kept, Account, Ordered, Asked, calls_of, Demand3}
 use Rattle.claims.proofs.Acts.{OkSlot}
 use Rattle.claims.proofs.OneCall.{Inv, leds, Step, step}
 

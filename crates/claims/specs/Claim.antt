@@ -1,16 +1,17 @@
 -- Demand 3: the voice heard alone, and the claim about a whole list of calls. Assumes nothing.
-use Rattle.std.specs.Prelude.{◌≡◌, ◌≢◌, cond, List, [], ◌∷◌, ◌++◌, map, ℕ, suc, ◌+◌, ◌^◌, ◌<◌, T, eqb, length, get_or, Float, Result, Ok, Err}
+use Rattle.std.specs.Prelude.{◌≡◌, ◌≢◌, cond, List, [], ◌∷◌, ◌++◌, map, ℕ, suc, ◌+◌, ◌^◌, ◌<◌, zero, eqb, length, get_or, Float, Result, Ok, Err}
 use Rattle.std.proofs.Math.Option.{Option, none, some}
-use Rattle.std.specs.Float.{binary32}
-use Rattle.std.specs.Float.Ieee.{fits}
-use Rattle.ground.specs.Draw.{moved, fed}
+use Rattle.ground.specs.Draw.{Draw, value, ending, words, moved, fed}
 use Rattle.ground.specs.Each.{Each}
+use Rattle.noise.specs.declared.excitation.Knobs.{Knobs}
 use Rattle.noise.specs.declared.excitation.Counts.{Counts}
+use Rattle.string_voice.specs.StringVoice as string
+use Rattle.modal_voice.specs.ModalVoice as modal
 use Rattle.slots.specs.declared.answers.Reason.{Reason}
 use Rattle.slots.specs.declared.answers.Reason.TheVariants.{Memory}
 use Rattle.slots.specs.Answers.{no_counts, counts_of, number_of}
 use Rattle.slots.specs.Slots.{empty_slot}
-use Rattle.slots.specs.Calls.{Bufs, Act, opening, reset, render, lent, Voice, Done, act_def}
+use Rattle.slots.specs.Calls.{Bufs, Act, render, InF32, lent, Voice, Done, act_def}
 use Rattle.slots.specs.Table.{Call}
 use Rattle.bank.specs.World.{start, lines_at, voice_at, Event, run_from, end_from}
 use Rattle.claims.specs.Ledger.{Line, ledger}
@@ -96,6 +97,30 @@ pub record Kept (e : Event) : Type 0 where
   pub counts : counts_of e.answer ≡ no_counts
   pub dealt : e.dealt ≡ []
 
+-- ---- the order of a render's words
+
+-- dealt from the word w, the words are those of its first half, as many as burst and dust count, and then those of its second, as many as dispersion counts
+pub record InOrder {X Y : Type 0} (first : Draw X) (second : X → Draw Y) (w : ℕ) (n : Counts) (dealt : List ℕ) : Type 0 where
+  pub both : dealt ≡ words first w ++ words (second (value first w)) (ending first w)
+  pub excitation : length (words first w) ≡ n.burst + n.dust
+  pub string : length (words (second (value first w)) (ending first w)) ≡ n.dispersion
+
+-- the halves of a render, by the slot's kind: its excitation, and then its string or its modes
+abbrev pub halves : ℕ → Knobs → Bufs → Voice → ℕ → Counts → List ℕ → Type 0
+halves zero k b v = λ w n dealt. Unit {0}
+halves (suc zero) k b v =
+    InOrder (string.excite_of k v.slot.string b.temp b.temp2 b.aux) (λ e. string.sound_of k e.voice v.lines e.temp2 b.out)
+halves (suc (suc j)) k b v =
+    InOrder (modal.excite_of k v.slot.modal b.temp b.temp2 b.aux) (λ e. modal.sound_of k e.voice e.temp2 b.out)
+
+-- of a render that is accepted; no other call is dealt words
+abbrev pub in_halves : Act → Result Counts Reason → Voice → ℕ → List ℕ → Type 0
+in_halves (render k b) (Ok n) v w dealt = halves v.slot.kind k b v w n dealt
+in_halves a r v w dealt = dealt ≡ []
+
+abbrev pub Ordered : Event → Type 0
+Ordered e = in_halves e.call.act e.answer (voice_at e.call.slot e.before) e.before.word e.dealt
+
 -- ---- the claim
 
 pub record Account (seed : ℕ) (mem : List Float) (calls : List Call) (es : List Event) (ls : List Line) : Type 0 where
@@ -107,6 +132,8 @@ pub record Account (seed : ℕ) (mem : List Float) (calls : List Call) (es : Lis
   -- as many words are dealt as were counted, and the k-th is the seed moved k times
   pub dealt_length : length (dealt es) ≡ drawn es
   pub dealt_at : (k : ℕ) → k < drawn es → get_or (dealt es) k 0 ≡ moved (suc k) seed
+  -- burst or dust words of a block are drawn before its dispersion words
+  pub in_order : Each Ordered es
   -- the generator ends at the seed moved drawn times
   pub ends : (end_from (start seed mem) calls).word ≡ moved (drawn es) seed
   -- a refused call changes nothing
@@ -117,13 +144,15 @@ pub record Account (seed : ℕ) (mem : List Float) (calls : List Call) (es : Lis
   -- line memory of another length: every call is refused with 1, nothing is drawn and nothing changes
   pub short : length mem ≢ 10240 → Each (λ e. e.answer ≡ Err Memory) es × (end_from (start seed mem) calls ≡ start seed mem) × (drawn es ≡ 0)
 
--- a structure is an f32, as every knob is: of another number just above 0.26 the amount of the dispersion would round to 0
-abbrev pub InF32 : Act → Type 0
-InF32 (opening kind rate) = Unit {0}
-InF32 reset = Unit {0}
-InF32 (render k b) = T (fits binary32 k.structure)
+-- a call as code makes it: its structure is an f32
+pub record Asked : Type 0 where
+  pub call : Call
+  pub f32 : InF32 call.act
+
+abbrev pub calls_of : List Asked → List Call
+calls_of asked = map (λ a. a.call) asked
 
 -- demand 3: of every seed, line memory and list of calls
 unfoldable pub Demand3 : Type 0
-Demand3 = (seed : ℕ) → seed < 2 ^ 32 → (mem : List Float) (calls : List Call) → Each (λ c. InF32 c.act) calls
-    → Account seed mem calls (run_from (start seed mem) calls) (ledger (length mem) calls)
+Demand3 = (seed : ℕ) → seed < 2 ^ 32 → (mem : List Float) (asked : List Asked)
+    → Account seed mem (calls_of asked) (run_from (start seed mem) (calls_of asked)) (ledger (length mem) (calls_of asked))

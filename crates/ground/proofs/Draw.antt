@@ -59,6 +59,16 @@ module _ {A B : Type 0} where
   pub run_then : (m : Draw A) (f : A → Draw B) (w : ℕ) {r : Ran A} → run m w ≡ r → run (m >>= f) w ≡ run (f r.value) r.word
   run_then m f w e = run_bind m f w ∙ ap (λ (q : Ran A). run (f q.value) q.word) e
 
+  -- the words of both, in order
+  pub words_bind : (m : Draw A) (f : A → Draw B) (w : ℕ) → words (m >>= f) w ≡ words m w ++ words (f (value m w)) (ending m w)
+  words_bind (ret a) f w = refl
+  words_bind (ask k) f w = ap (λ (r : List ℕ). next w ∷ r) (words_bind (k (next w)) f (next w))
+
+  -- a last step that draws nothing
+  pub words_then : (m : Draw A) (f : A → B) (w : ℕ) → words (m >>= λ a. ret (f a)) w ≡ words m w
+  words_then (ret a) f w = refl
+  words_then (ask k) f w = ap (λ (r : List ℕ). next w ∷ r) (words_then (k (next w)) f (next w))
+
   pub bind_same : (m : Draw A) {f g : A → Draw B} → ((a : A) → f a ≡ g a) → m >>= f ≡ m >>= g
   bind_same m h = ap (λ (f : A → Draw B). m >>= f) (fun_ext h)
 

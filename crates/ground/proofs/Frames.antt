@@ -66,6 +66,21 @@ module _ {S A B : Type 0} (step : S → A → B → Draw (S × B)) (Good : S →
       (λ r k. always_bind (λ q. Good q.0 × (length q.1 ≡ length ys)) _ (frames step r.0 xs ys) _ (frames_keeps r.0 xs ys k)
       (λ q p. (p.0, ap suc p.1)))
 
+-- what is told of the state by a part g of it that moves from frame to frame whatever the words are
+module _ {S A B G : Type 0} (step : S → A → B → Draw (S × B)) (go : G → G) (Good : G → S → Type 0)
+    (one : (g : G) (s : S) (x : A) (y : B) → Good g s → Always (λ r. Good (go g) r.0) (step s x y)) where
+  pub frames_after : (n : ℕ) (g : G) (s : S) (xs : List A) (ys : List B) → n ≡ min (length xs) (length ys) → Good g s
+      → Always (λ q. Good (after go n g) q.0) (frames step s xs ys)
+  unfolding frames
+  frames_after zero g s [] ys e h = h
+  frames_after zero g s (x ∷ xs) [] e h = h
+  frames_after zero g s (x ∷ xs) (y ∷ ys) e h = absurd (omega arith)
+  frames_after (suc n) g s [] ys e h = absurd (omega arith)
+  frames_after (suc n) g s (x ∷ xs) [] e h = absurd (omega arith)
+  frames_after (suc n) g s (x ∷ xs) (y ∷ ys) e h =
+      always_bind (λ r. Good (go g) r.0) _ (step s x y) _ (one g s x y h)
+      (λ r k. always_bind (λ q. Good (after go n (go g)) q.0) _ (frames step r.0 xs ys) _ (frames_after n (go g) r.0 xs ys (omega arith) k) (λ q p. p))
+
 -- ---- how many words a loop draws. What a step draws is told by a part g of the state that moves from frame to frame whatever the words are.
 
 -- `after` gives g after n frames, and `drawn` the words of n frames

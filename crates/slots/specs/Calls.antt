@@ -1,5 +1,7 @@
 -- A call for one voice: a slot's record beside its 1,280 numbers of line memory. Assumes nothing.
-use Rattle.std.specs.Prelude.{List, [], ℕ, zero, suc, length, replicate, Float}
+use Rattle.std.specs.Prelude.{List, [], ℕ, zero, suc, T, length, replicate, Float}
+use Rattle.std.specs.Float.{binary32}
+use Rattle.std.specs.Float.Ieee.{fits}
 use Rattle.ground.specs.F32.{c0}
 use Rattle.ground.specs.Draw.{Draw, ret, ◌>>=◌}
 use Rattle.noise.specs.declared.excitation.Knobs.{Knobs}
@@ -16,6 +18,12 @@ pub data Act : Type 0 where
   opening : ℕ → Float → Act
   reset : Act
   render : Knobs → Bufs → Act
+
+-- a structure is an f32, as every knob is: of another number just above 0.26 the amount of the dispersion would round to 0
+abbrev pub InF32 : Act → Type 0
+InF32 (opening kind rate) = Unit {0}
+InF32 reset = Unit {0}
+InF32 (render k b) = T (fits binary32 k.structure)
 
 -- the buffers as lent: an opening and a reset have none
 abbrev pub lent : Act → Bufs

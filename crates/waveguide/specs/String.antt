@@ -1,5 +1,5 @@
 -- string.rs: a string's state beside its lines, the string line of 1,024 numbers and the stretch line of 256 behind it. Assumes nothing.
-use Rattle.std.specs.Prelude.{◌≡◌, Bool, false, cond, ◌&&◌, List, ℕ, ◌+◌, ◌<◌, length, Float}
+use Rattle.std.specs.Prelude.{◌≡◌, Bool, false, cond, ◌&&◌, List, ℕ, zero, suc, ◌+◌, ◌<◌, min, length, Float}
 use Rattle.std.specs.Float.Ieee.{lt, le, neg}
 use Rattle.resources.specs.Table.{entry}
 use Rattle.resources.specs.Svf.{svf_shift}
@@ -11,7 +11,7 @@ use Rattle.ground.specs.Floats.{whole_part, fraction_of, min_f, clamp_f, abs_f}
 use Rattle.ground.specs.Random.{float_of}
 use Rattle.utils.specs.Utils.{one_pole, crossfade_of}
 use Rattle.utils.specs.Units.{semitones_to_ratio}
-use Rattle.utils.specs.ParameterInterpolator.{interpolator_of}
+use Rattle.utils.specs.ParameterInterpolator.{interpolator_of, taken}
 use Rattle.utils.specs.Filter.{svf_new, svf_init, svf_setFQ, svf_of, dc_init, dc_of}
 use Rattle.utils.specs.DelayLine.{cleared, written, allpass_of, read_frac, read_hermite}
 use Rattle.utils.specs.declared.filter.FrequencyApproximation.TheVariants.{Fast}
@@ -311,6 +311,20 @@ unfoldable pub strung : StringNonLinearity → Float → Float → Float → Str
 strung shape f0 brightness damping s xs ys =
     let d = damping_of f0 brightness damping in
     frames (frame_of shape (params_of s.0 f0 (amount_of shape) d (length ys))) (tuned s.0 f0 d, s.1) xs ys
+
+-- ---- the delay that a block leaves
+
+-- the string steps of n frames from a phase on
+unfoldable pub steps : Float → ℕ → Float → ℕ
+steps ratio zero phase = 0
+steps ratio (suc n) phase = let q = phase ⊕ ratio in cond (lt c1 q) 1 0 + steps ratio n (cond (lt c1 q) (q ⊖ c1) q)
+
+-- 01 'Filters, lines and tables': the kept delay is the old delay with each increment actually taken added in turn, never the target
+unfoldable pub KeptDelay : Type 0
+KeptDelay = (shape : StringNonLinearity) (f0 brightness damping : Float) (s : String × List Float) (xs ys : List Float) (word : ℕ)
+    → let p = params_of s.0 f0 (amount_of shape) (damping_of f0 brightness damping) (length ys) in
+    (value (strung shape f0 brightness damping s xs ys) word).0.0.delay
+    ≡ taken (steps p.src_ratio (min (length xs) (length ys)) (snap (ratio_of f0) s.0.src_phase)) s.0.delay p.increment
 
 -- what a string's state and its lines always are
 pub record Good (s : String × List Float) : Type 0 where
