@@ -1,7 +1,7 @@
 // The calls of the bank: any bank, any lengths, any numbers.
 ghost use Rattle.std.specs.Prelude.{◌≡◌, ℕ};
 ghost use Rattle.noise.specs.Buffers.{held, IsSame};
-ghost use Rattle.slots.specs.Calls.{opening, reset, render, lent};
+ghost use Rattle.slots.specs.Calls.{opening, reset, render, InF32, lent};
 ghost use Rattle.bank.specs.World.{left_of, call_def};
 
 use noise::buffers::Buffers;
@@ -88,6 +88,7 @@ pub fn render(
       after = record { bank = result.bank; word = result.word; mem = lines.new };
       bufs = held b.new;
     } }
+    ensures given { InF32 (render k (held b.old)) }
     ensures same { IsSame b.new b.old }
 {
     let bad = slots::table::bad(bank, lines);

@@ -7,13 +7,13 @@ use native.Mathlib.Omega.{arith}
 use lib.Dec.{eqb}
 use lib.ListN.{length}
 use lib.Ieee.{Float}
-use borrow.Author.Tests.{eqb-true}
+use borrow.Author.Tests.{eqb-true, eq-eqb}
 use Rattle.std.specs.Prelude.{Result, Ok, Err}
 use Rattle.slots.specs.declared.answers.Reason.{Reason}
 use Rattle.slots.specs.declared.slots.Slot.{Slot}
 use Rattle.slots.specs.Answers.{no_counts, reason_number}
 use Rattle.slots.specs.Slots.{slot_at, with_slot}
-use Rattle.slots.specs.Calls.{Act, lent, Voice, act_def}
+use Rattle.slots.specs.Calls.{Act, InF32, lent, Voice, act_def}
 use Rattle.slots.specs.Table.{Call, first, checks, verdict, bad}
 use Rattle.bank.specs.World.{Moved, moved_by, call_by, call_def, lines_at}
 use Rattle.bank.proofs.Accepted.{Sound, whole, begun}
@@ -25,9 +25,10 @@ use Rattle.claims.proofs.Acts.{OkSlot, Follows, led_of, act_law}
 use Rattle.slot_bytes.proofs.Parts.{bank_after}
 use Rattle.slot_bytes.proofs.Little.{length_slot_bytes}
 use Rattle.bank_abi.proofs.Back.{decode_encode}
+use Rattle.bank_abi.proofs.Stays.{bank_stays}
 use Rattle.slot_bytes.specs.Layout.{SlotF32, encode_slot, parts, decode_bank, with_bytes}
 use Rattle.bank_abi.specs.Claims.{Numbers}
-use Rattle.bank_abi.specs.Crossing.{bad_flags, is_bank, bad_bytes, Crossing, world_of, Crossed, cross_by, Wrote, cross_def, numbers_of, decoded, Gives}
+use Rattle.bank_abi.specs.Crossing.{bad_flags, is_bank, kind_in, bad_bytes, Crossing, world_of, Crossed, cross_by, Wrote, cross_def, numbers_of, decoded, Gives}
 
 -- ---- what number 1 leaves of the bytes
 
@@ -50,6 +51,11 @@ good bs mem e =
 module _ (bs : List ℕ) (mem : List Float) (c : Call) where
   abbrev kind_of : ℕ
   kind_of = (slot_at (decode_bank bs) c.slot).kind
+
+  -- a kind that is read off the bytes
+  pub kind_read : {n : ℕ} → n ≡ kind_in bs c.slot → length bs ≡ 3144 → n ≡ kind_of
+  unfolding kind_in
+  kind_read e l = e ∙ rw (eq-eqb (length bs) 3144 l)
 
   -- a kind that is read from a bank; where number 1 applies none is asked for
   same_word : (b : Bool) (n : ℕ) → b ≡ bad_bytes bs mem → (length bs ≡ 3144 → n ≡ kind_of) → verdict b n c ≡ verdict (bad_bytes bs mem) kind_of c
@@ -102,13 +108,15 @@ module _ (x : Crossing) (c : Call) where
   unfolding bad_bytes
   same_table e = rw e
 
-  pub refused : (r : Reason) {n : ℕ} → n ≡ reason_number r → verdict (bad_bytes x.bytes x.mem) kind c ≡ Err r
+  pub refused : (r : Reason) {n : ℕ} → InF32 c.act → n ≡ reason_number r → verdict (bad_bytes x.bytes x.mem) kind c ≡ Err r
       → Gives x c (record { number = n; counts = no_counts; after = x; bufs = lent c.act })
   unfolding cross_def cross_by call_def call_by
-  refused r en e =
+  refused r i en e =
       record {
-        is = ap (λ (v : Result (Unit {0}) Reason). cross_by v x c) e ∙ λ i. record { number = sym en i; counts = no_counts; after = x; bufs = lent c.act };
-        agrees = λ b. ap (λ (v : Result (Unit {0}) Reason). numbers_of (call_by v (world_of x) c)) (same_table b ∙ e) ∙ λ i. (sym en i, no_counts, world_of x, lent c.act);
+        is = ap (λ (v : Result (Unit {0}) Reason). cross_by v x c) e ∙ λ j. record { number = sym en j; counts = no_counts; after = x; bufs = lent c.act };
+        agrees = λ b. ap (λ (v : Result (Unit {0}) Reason). numbers_of (call_by v (world_of x) c)) (same_table b ∙ e) ∙ λ j. (sym en j, no_counts, world_of x, lent c.act);
+        stays = λ b. b;
+        given = i;
       }
 
   -- an accepted call: the slot that was read and moved, and the bytes that were written
@@ -137,4 +145,6 @@ module _ (x : Crossing) (c : Call) where
         agrees = λ b. ap (λ (v : Result (Unit {0}) Reason). numbers_of (call_by v (world_of x) c)) (same_table b ∙ t.word)
             ∙ (λ j. (0, m.counts, record { bank = sym d j; word = m.word; mem = m.mem }, m.bufs))
             ∙ ap decoded w.is;
+        stays = λ b. subst (λ (q : Crossed). is_bank q.after.bytes ≡ true) w.is (bank_stays x.bytes c.slot m.slot b t.slot_within w.held);
+        given = i;
       }

@@ -2,5 +2,7 @@
 pub mod NumberOne
 pub mod Back
 pub mod Again
+pub mod Stays
 pub mod Crosses
 pub mod Zeros
+pub mod Chain

@@ -1,9 +1,8 @@
 // Number 1 and a slot's kind, read off the bytes.
 ghost use Rattle.std.specs.Prelude.{◌≡◌, ◌||◌, length};
-ghost use Rattle.slots.specs.Slots.{slot_at};
 ghost use Rattle.slots.specs.Table.{bad_slot, bad_slots};
 ghost use Rattle.slot_bytes.specs.Layout.{decode_slot, parts, decode_bank};
-ghost use Rattle.bank_abi.specs.Crossing.{bad_flag, bad_flags, bad_bytes};
+ghost use Rattle.bank_abi.specs.Crossing.{bad_flag, bad_flags, kind_in, bad_bytes};
 
 use slot_bytes::decode::slots_of;
 use slot_bytes::words::word_at;
@@ -38,10 +37,13 @@ pub fn bad(bytes: &[u8], lines: &[f32]) -> bool
     bytes.len() != 3144 || lines.len() != 10240 || bad_slots(bytes)
 }
 
-// The kind of a slot of a bank; where there is no such slot, 0 and no `None`: 0 is an empty slot's number, which the definition gives for no slot.
-#[tactic(auto, unfolding(slot_bytes::specs::Layout::decode_slot, slot_bytes::specs::Layout::slot_in), using(slot_bytes::proofs::Parts::slot_of, slot_bytes::proofs::Parts::slot_none))]
+// The kind of a slot of a bank; of bytes of another length, and where there is no such slot, 0 and no `None`: 0 is an empty slot's number, which the definition gives for no slot.
+#[tactic(auto, unfolding(crate::specs::Crossing::kind_in, slot_bytes::specs::Layout::decode_slot, slot_bytes::specs::Layout::slot_in), using(slot_bytes::proofs::Parts::slot_of, slot_bytes::proofs::Parts::slot_none))]
 pub fn kind_at(bytes: &[u8], slot: usize) -> u32
-    ensures { length bytes.now ≡ 3144 → result ≡ (slot_at (decode_bank bytes.now) slot).kind }
+    ensures { result ≡ kind_in bytes.now slot }
 {
+    if bytes.len() != 3144 {
+        return 0;
+    }
     slots_of(bytes).get(slot).map_or(0, |b| word_at(b, 0))
 }

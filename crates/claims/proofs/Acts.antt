@@ -56,10 +56,10 @@ ByLedger e m = Draws (total e.counts) (Follows e) m
 -- ---- a string's render
 
 -- buffers of one length
-record Alike (b : Bufs) : Type 0 where
-  temp2 : length b.temp2 ≡ length b.temp
-  out : length b.out ≡ length b.temp
-  aux : length b.aux ≡ length b.temp
+pub record Alike (b : Bufs) : Type 0 where
+  pub temp2 : length b.temp2 ≡ length b.temp
+  pub out : length b.out ≡ length b.temp
+  pub aux : length b.aux ≡ length b.temp
 
 -- burst or dust words first, dispersion words behind them
 in_order : (sustain : Bool) (l n d : ℕ) → excitation_words sustain l n + d ≡ string.burst_words sustain l n + string.dust_words sustain n + d
@@ -135,15 +135,15 @@ pub passed : (b : Bool) (r : Reason) (v : Result (Unit {0}) Reason) → cond b (
 passed true r v e = absurd (false≢true (ap accepts e))
 passed false r v e = (refl, e)
 
-all_passed : (cs : List Check) → first cs ≡ Ok tt → Each (λ c. c.applies ≡ false) cs
+pub all_passed : (cs : List Check) → first cs ≡ Ok tt → Each (λ c. c.applies ≡ false) cs
 unfolding first
 all_passed [] e = tt
 all_passed (c ∷ cs) e = let p = passed c.applies c.reason (first cs) e in (p.0, all_passed cs p.1)
 
-passes_test : (b : Bool) → not b ≡ false → T b
+pub passes_test : (b : Bool) → not b ≡ false → T b
 passes_test b e = passes b (not-false b e)
 
-alike_is : (b : Bufs) → T (alike b) → Alike b
+pub alike_is : (b : Bufs) → T (alike b) → Alike b
 unfolding alike
 alike_is b t =
     let n = length b.temp in

@@ -1,6 +1,7 @@
 -- The claim, proved.
 pub mod Agreement
 pub mod Acts
+pub mod Order
 pub mod OneCall
 pub mod Whole
 pub mod Values

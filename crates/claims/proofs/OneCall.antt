@@ -23,12 +23,13 @@ use Rattle.slots.specs.declared.answers.Reason.{Reason}
 use Rattle.slots.specs.declared.answers.Reason.TheVariants.{NoSlot}
 use Rattle.slots.specs.Answers.{counts_of}
 use Rattle.slots.specs.Slots.{no_string, empty_slot, slot_at, with_slot}
-use Rattle.slots.specs.Calls.{InF32, Done, act_def}
+use Rattle.slots.specs.Calls.{Act, opening, reset, render, InF32, Voice, Done, act_def}
 use Rattle.slots.specs.Table.{Call, first, checks, verdict, bad_slot, bad_slots, bad}
 use Rattle.bank.specs.World.{World, lines_at, with_lines, voice_at, Event, call_by, call_def}
 use Rattle.claims.specs.Ledger.{Led, fresh_led, Entry, entry, Line, line_by, line_of}
-use Rattle.claims.specs.Claim.{nothing, given, feed, of_done, hear, seen, total}
+use Rattle.claims.specs.Claim.{nothing, given, feed, of_done, hear, seen, total, in_halves, Ordered}
 use Rattle.claims.proofs.Acts.{led_of, OkSlot, Follows, ByLedger, passed, act_law}
+use Rattle.claims.proofs.Order.{order_law}
 
 map_set : {A B : Type 0} (f : A → B) (l : List A) (i : ℕ) (y : A) → map f (set l i y) ≡ set (map f l) i (f y)
 map_set f [] i y = refl
@@ -84,6 +85,13 @@ pub record Step (w : World) (ls : List Led) (c : Call) (e : Event) (l : Line) : 
   pub dealt_is : e.dealt ≡ stream (total (counts_of e.answer)) w.word
   pub ends_is : e.after.word ≡ moved (total (counts_of e.answer)) w.word
   pub alone_is : (s : ℕ) → s < 8 → hear (voice_at s w) (feed s c l.answer e.dealt) ≡ some (seen s e)
+  pub ordered_is : Ordered e
+
+-- a refused call is dealt no words
+pub none_dealt : (a : Act) (r : Reason) (v : Voice) (word : ℕ) → in_halves a (Err r) v word []
+none_dealt (opening kind rate) r v word = refl
+none_dealt reset r v word = refl
+none_dealt (render k b) r v word = refl
 
 module _ (w : World) (v : Inv w) (c : Call) where
   module _ (f : InF32 c.act) (h : c.slot < 8) (p : first (checks (slot_at w.bank c.slot).kind c.act) ≡ Ok tt) where
@@ -171,11 +179,13 @@ module _ (w : World) (v : Inv w) (c : Call) where
           dealt_is = words_are m w.word ∙ ap (λ (k : ℕ). stream k w.word) many;
           ends_is = ending_is m w.word ∙ ap (λ (k : ℕ). moved k w.word) many;
           alone_is = λ s k. heard s (eqb c.slot s) refl;
+          ordered_is = order_law c.act (voice_at c.slot w) w.word (each_at OkSlot w.bank.slots c.slot empty_slot slot_within v.oks)
+              (length_part (1280 * c.slot) 1280 w.mem lines_in) p;
         }
 
   refused : (r : Reason) → Step w (leds w) c (call_by (Err r) w c) (line_by (Err r) (leds w) c)
   unfolding call_by line_by
-  refused r = record { same = refl; slots = refl; inv = v; dealt_is = refl; ends_is = refl; alone_is = λ s k. refl }
+  refused r = record { same = refl; slots = refl; inv = v; dealt_is = refl; ends_is = refl; alone_is = λ s k. refl; ordered_is = none_dealt c.act r (voice_at c.slot w) w.word }
 
   by_verdict : InF32 c.act → (r : Result (Unit {0}) Reason) → verdict false (slot_at w.bank c.slot).kind c ≡ r → Step w (leds w) c (call_by r w c) (line_by r (leds w) c)
   unfolding verdict first

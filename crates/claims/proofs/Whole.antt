@@ -25,7 +25,7 @@ use Rattle.bank.specs.World.{World, start, lines_at, voice_at, Event, call_by, c
 use Rattle.claims.specs.Ledger.{Led, fresh_led, Line, line_by, line_of, ledger_from, ledger}
 use Rattle.claims.specs.Claim.{Feed, feed, feeds, Heard, hear, note, go_on, alone, seen, sum_of, total, drawn, dealt, Kept, Account, Ordered, Asked, calls_of, Demand3}
 use Rattle.claims.proofs.Acts.{OkSlot}
-use Rattle.claims.proofs.OneCall.{Inv, leds, Step, step}
+use Rattle.claims.proofs.OneCall.{Inv, leds, Step, none_dealt, step}
 
 -- ---- the list
 
@@ -34,6 +34,7 @@ record Facts (w : World) (calls : List Call) (es : List Event) (ns : List Line) 
   dealt_is : dealt es ≡ stream (drawn es) w.word
   ends : (end_from w calls).word ≡ moved (drawn es) w.word
   apart : (s : ℕ) → s < 8 → alone (voice_at s w) (feeds s calls ns (map (λ e. e.dealt) es)) ≡ some (map (seen s) es)
+  in_order : Each Ordered es
 
 hear_on : (v v' : Voice) (f : Feed) (fs : List Feed) (h : Heard) (hs : List Heard) → hear v f ≡ some h → h.voice ≡ v' → alone v' fs ≡ some hs
     → alone v (f ∷ fs) ≡ some (h ∷ hs)
@@ -43,7 +44,7 @@ hear_on v v' f fs h hs p q r =
 facts : (calls : List Call) (w : World) (ls : List Led) → ls ≡ leds w → Inv w → Each (λ c. InF32 c.act) calls
     → Facts w calls (run_from w calls) (ledger_from 10240 ls calls)
 unfolding run_from ledger_from end_from
-facts [] w ls q v f = record { answers = refl; dealt_is = refl; ends = refl; apart = λ s h. refl }
+facts [] w ls q v f = record { answers = refl; dealt_is = refl; ends = refl; apart = λ s h. refl; in_order = tt }
 facts (c ∷ cs) w ls q v f =
     let e = call_def w c in
     let l = line_of 10240 ls c in
@@ -60,6 +61,7 @@ facts (c ∷ cs) w ls q v f =
       apart = λ s h.
           hear_on (voice_at s w) (voice_at s e.after) (feed s c l.answer e.dealt) (feeds s cs (ledger_from 10240 l.slots cs) (map (λ x. x.dealt) es)) (seen s e) (map (seen s) es)
           (t.alone_is s h) refl (r.apart s h);
+      in_order = (t.ordered_is, r.in_order);
     }
 
 -- ---- the sums
@@ -100,6 +102,7 @@ record Idle (w : World) (calls : List Call) (es : List Event) (ns : List Line) :
   drawn_is : drawn es ≡ 0
   dealt_is : dealt es ≡ []
   ends : end_from w calls ≡ w
+  in_order : Each Ordered es
 
 module _ (w : World) (d : length w.mem ≢ 10240) where
   one_event : (c : Call) → call_def w c ≡ call_by (Err Memory) w c
@@ -112,7 +115,7 @@ module _ (w : World) (d : length w.mem ≢ 10240) where
 
   idle : (calls : List Call) (ls : List Led) → Idle w calls (run_from w calls) (ledger_from (length w.mem) ls calls)
   unfolding run_from ledger_from end_from call_by line_by
-  idle [] ls = record { answers = refl; ones = tt; drawn_is = refl; dealt_is = refl; ends = refl }
+  idle [] ls = record { answers = refl; ones = tt; drawn_is = refl; dealt_is = refl; ends = refl; in_order = tt }
   idle (c ∷ cs) ls =
       let n = length w.mem in
       let r = idle cs ls in
@@ -125,6 +128,7 @@ module _ (w : World) (d : length w.mem ≢ 10240) where
         drawn_is = omega (arith, r.drawn_is);
         dealt_is = r.dealt_is;
         ends = x;
+        in_order = (none_dealt c.act Memory (voice_at c.slot w) w.word, r.in_order);
       }))
 
 -- ---- the whole
@@ -163,6 +167,7 @@ module _ (seed : ℕ) (mem : List Float) (calls : List Call) where
         balance = balanced es ls f.answers;
         dealt_length = ap length f.dealt_is ∙ length_stream (drawn es) seed;
         dealt_at = λ k h. ap (λ (x : List ℕ). get_or x k 0) f.dealt_is ∙ stream_at (drawn es) seed k 0 h;
+        in_order = f.in_order;
         ends = f.ends;
         kept = all_kept calls (start seed mem);
         apart = λ _ s h.
@@ -180,6 +185,7 @@ module _ (seed : ℕ) (mem : List Float) (calls : List Call) where
         balance = balanced es (ledger_from (length mem) (replicate 8 fresh_led) calls) f.answers;
         dealt_length = ap length f.dealt_is ∙ sym f.drawn_is;
         dealt_at = λ k h. absurd (none_below k (drawn es) f.drawn_is h);
+        in_order = f.in_order;
         ends = ap (λ (w : World). w.word) f.ends ∙ ap (λ (n : ℕ). moved n seed) (sym f.drawn_is);
         kept = all_kept calls (start seed mem);
         apart = λ e. absurd (d e);
@@ -189,10 +195,14 @@ module _ (seed : ℕ) (mem : List Float) (calls : List Call) where
       none_below : (k n : ℕ) → n ≡ 0 → k < n → ⊥
       none_below k n e h = omega arith
 
+all_f32 : (asked : List Asked) → Each (λ c. InF32 c.act) (calls_of asked)
+all_f32 [] = tt
+all_f32 (a ∷ asked) = (a.f32, all_f32 asked)
+
 pub demand_3 : Demand3
 unfolding Demand3
-demand_3 seed l mem calls f = go (ℕ_discrete (length mem) 10240)
+demand_3 seed l mem asked = go (ℕ_discrete (length mem) 10240)
   where
-    go : Dec (length mem ≡ 10240) → Account seed mem calls (run_from (start seed mem) calls) (ledger (length mem) calls)
-    go (yes e) = full seed mem calls e f
-    go (no d) = other seed mem calls d
+    go : Dec (length mem ≡ 10240) → Account seed mem (calls_of asked) (run_from (start seed mem) (calls_of asked)) (ledger (length mem) (calls_of asked))
+    go (yes e) = full seed mem (calls_of asked) e (all_f32 asked)
+    go (no d) = other seed mem (calls_of asked) d

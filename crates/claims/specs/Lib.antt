@@ -1,3 +1,4 @@
 -- 01's ledger, and the claim about every list of calls.
 pub mod Ledger
 pub mod Claim
+pub mod Values

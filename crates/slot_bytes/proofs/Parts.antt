@@ -84,7 +84,7 @@ put_past p q new m l =
     ∙ ap (λ (z : List ℕ). (p ++ take m q) ++ (new ++ drop 393 z)) (drop-append-add p q m)
     ∙ append_assoc p (take m q) (new ++ drop 393 (drop m q))
 
-parts_put : (n i : ℕ) (new bs : List ℕ) → i < n → 393 * n ≤ length bs → length new ≡ 393 → parts n (put (393 * i) 393 new bs) ≡ set (parts n bs) i new
+pub parts_put : (n i : ℕ) (new bs : List ℕ) → i < n → 393 * n ≤ length bs → length new ≡ 393 → parts n (put (393 * i) 393 new bs) ≡ set (parts n bs) i new
 unfolding parts put
 parts_put zero i new bs h l k = absurd (omega arith)
 parts_put (suc n) zero new bs h l k =

@@ -22,7 +22,7 @@ put_nth-requires c =
 pub returns-in-Err : goal.returns-in-Err
 returns-in-Err c = λ w.
     let a = c.args in
-    refused (record { bytes = a.bytes.now; word = w; mem = a.lines.now }) (record { slot = a.slot; act = opening a.kind a.sample_rate_hz }) c.in-Err.reason c.from.ensures (decided a.bytes.now a.lines.now (record { slot = a.slot; act = opening a.kind a.sample_rate_hz }) (c.check_open.ensures (slot_at (decode_bank a.bytes.now) a.slot).kind) c.bad-bad.ensures (λ _. refl) c.in-Err.is)
+    refused (record { bytes = a.bytes.now; word = w; mem = a.lines.now }) (record { slot = a.slot; act = opening a.kind a.sample_rate_hz }) c.in-Err.reason tt c.from.ensures (decided a.bytes.now a.lines.now (record { slot = a.slot; act = opening a.kind a.sample_rate_hz }) (c.check_open.ensures (slot_at (decode_bank a.bytes.now) a.slot).kind) c.bad-bad.ensures (λ _. refl) c.in-Err.is)
 
 pub returns-in-Ok : goal.returns-in-Ok
 returns-in-Ok c = λ w.
