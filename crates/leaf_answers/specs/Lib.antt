@@ -1,2 +1,0 @@
--- What the contracts of `leaf_answers` cite. Assumes nothing.
-pub mod Functions

@@ -1,2 +1,0 @@
--- Laws of `modal_answers` that belong to no one function. Assumes nothing.
-pub mod Digests
