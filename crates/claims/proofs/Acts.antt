@@ -151,13 +151,13 @@ alike_is b t =
     let q = and_true (eqb (length b.temp2) n) (eqb (length b.out) n) p.0 in
     record { temp2 = eqb→eq (length b.temp2) n q.0; out = eqb→eq (length b.out) n q.1; aux = eqb→eq (length b.aux) n p.1 }
 
-f0_in : (f0 : Float) → T (within lowest c0·5 f0) → Fundamental f0
+pub f0_in : (f0 : Float) → T (within lowest c0·5 f0) → Fundamental f0
 unfolding within
 f0_in f0 t =
     let p = and_true (le lowest f0) (le f0 c0·5) t in
     fundamental f0 (is_true (le lowest f0) p.0) (is_true (le f0 c0·5) p.1)
 
-knob_in : (x : Float) → T (within c0 c1 x) → Knob x
+pub knob_in : (x : Float) → T (within c0 c1 x) → Knob x
 unfolding within
 knob_in x t =
     let p = and_true (le c0 x) (le x c1) t in

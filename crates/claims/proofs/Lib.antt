@@ -3,5 +3,6 @@ pub mod Agreement
 pub mod Acts
 pub mod Order
 pub mod OneCall
+pub mod Tables
 pub mod Whole
 pub mod Values

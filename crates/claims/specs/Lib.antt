@@ -1,4 +1,5 @@
 -- 01's ledger, and the claim about every list of calls.
 pub mod Ledger
 pub mod Claim
+pub mod Tables
 pub mod Values

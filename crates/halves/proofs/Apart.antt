@@ -20,7 +20,7 @@ use Rattle.ground.proofs.Tab.{tab_get_d}
 use Rattle.modes.specs.declared.resonator.Modes.{Modes}
 use Rattle.modes.specs.declared.resonator.States.{States}
 use Rattle.modes.specs.OnePass.{FullStates, Bands, bands_of, tick_in, place_of, places_of, add_batches, add_bare, frame_of}
-use Rattle.halves.specs.Halves.{put_from, last_eight, row_at, take_row, tail_of, head_of, tail_state, head_state, tail_frame, Rows, Fitting, head_frame, head_pass}
+use Rattle.halves.specs.Halves.{put_from, last_eight, row_at, take_row, tail_of, head_of, tail_state, head_state, tail_step, Rows, Fitting, head_frame, head_pass}
 use Rattle.modes.proofs.Frame.{states_tab, states_written}
 use Rattle.modes.proofs.Bare.{add_bare_lem, tab_fits}
 
@@ -111,50 +111,32 @@ module _ (k : Modes) where
       (row_at rows) 0 nan s xs ys z l (λ j m. (let n : 0 + j ≡ j = omega arith in ap (row_at rows) n) ∙ r j m)
       ∙ (λ i. (q.0.0 i, q.1 i))
 
+  -- what a block of the first pass leaves: the states, and the rows of its frames
+  tail_states : (s : States) (xs : List Float) (rows : List (List Float)) → length xs ≤ length rows → (scan (tail_step k) s xs rows).0 ≡ over (tail_state k) s xs
+  unfolding scan over
+  tail_states s [] rows l = refl
+  tail_states s (x ∷ xs) [] l = absurd (not-suc-le-zero l)
+  tail_states s (x ∷ xs) (row ∷ rows) l = tail_states (tail_state k s x) xs rows (le_of_suc-le-suc l)
+
+  tail_rows : (s : States) (xs : List Float) (rows : List (List Float)) → length xs ≤ length rows → Rows k s xs (scan (tail_step k) s xs rows).1
+  unfolding scan over
+  tail_rows s [] rows l j m = absurd (not-suc-le-zero m)
+  tail_rows s (x ∷ xs) [] l j m = absurd (not-suc-le-zero l)
+  tail_rows s (x ∷ xs) (row ∷ rows) l zero m = refl
+  tail_rows s (x ∷ xs) (row ∷ rows) l (suc j) m = tail_rows (tail_state k s x) xs rows (le_of_suc-le-suc l) j (le_of_suc-le-suc m)
+
   -- the same by what the calls ensure
-  pub passed_both : {s₁ : States} {q : States × List Float} (rows : List (List Float)) (s : States) (xs ys : List Float) → FullStates s → length xs ≡ length ys
-      → s₁ ≡ over (tail_state k) s xs → Rows k s xs rows → q ≡ head_pass k rows s₁ xs ys → q ≡ scan (frame_of k) s xs ys
-  passed_both rows s xs ys z l e r h = h ∙ ap (λ (u : States). head_pass k rows u xs ys) e ∙ two_passes rows s xs ys z l r
+  pub rows_given : {s₁ : States} {new : List (List Float)} (s : States) (xs : List Float) (rows : List (List Float)) → length xs ≤ length rows
+      → ◌≡◌ {A = States × List (List Float)} (s₁, new) (scan (tail_step k) s xs rows) → Rows k s xs new
+  rows_given s xs rows l e = subst (λ (t : States × List (List Float)). Rows k s xs t.1) (sym e) (tail_rows s xs rows l)
 
--- ---- what the rows have after i frames of the first pass
-
--- one frame more
-over_more : {S A : Type 0} (step : S → A → S) (a : A) (i : ℕ) (s : S) (xs : List A) → i < length xs
-    → over step s (take (suc i) xs) ≡ step (over step s (take i xs)) (get_or xs i a)
-unfolding over
-over_more step a i s [] l = absurd (not-suc-le-zero l)
-over_more step a zero s (x ∷ xs) l = refl
-over_more step a (suc i) s (x ∷ xs) l = over_more step a i (step s x) xs (le_of_suc-le-suc l)
-
--- i frames of the first pass are done
-pub record Passed (k : Modes) (s₀ : States) (xs : List Float) (i : ℕ) (s : States) (rows : List (List Float)) : Type 0 where
-  pub within : i ≤ length xs
-  pub room : length rows ≡ 64
-  pub here : s ≡ over (tail_state k) s₀ (take i xs)
-  pub rows_are : (j : ℕ) → j < i → row_at rows j ≡ kept k (over (tail_state k) s₀ (take j xs)) (get_or xs j nan)
-
-module _ (k : Modes) (s₀ : States) (xs : List Float) where
-  pub passed_begin : (rows : List (List Float)) → length rows ≡ 64 → Passed k s₀ xs 0 s₀ rows
-  unfolding over
-  passed_begin rows l = record { within = omega arith; room = l; here = refl; rows_are = λ j l. absurd (not-suc-le-zero l) }
-
-  pub passed_turn : {i : ℕ} {s s' : States} {rows : List (List Float)} {row : List Float} → Passed k s₀ xs i s rows → i < length xs → length xs ≤ 64
-      → ◌≡◌ {A = States × List Float} (s', row) (tail_frame k s (get_or xs i nan)) → Passed k s₀ xs (i + 1) s' (set rows i row)
-  passed_turn {i} {s} {s'} {rows} {row} f l h e =
-      let x = get_or xs i nan in
-      let at_i = ap (λ (s : States). kept k s x) f.here in
-      record {
-        within = omega arith;
-        room = length-set rows i row ∙ f.room;
-        here = ap (λ (q : States × List Float). q.0) e ∙ ap (λ (s : States). tail_state k s x) f.here
-            ∙ sym (ap (λ (n : ℕ). over (tail_state k) s₀ (take n xs)) (add-one i) ∙ over_more (tail_state k) nan i s₀ xs l);
-        rows_are = below_more (λ (j : ℕ). row_at (set rows i row) j ≡ kept k (over (tail_state k) s₀ (take j xs)) (get_or xs j nan)) i
-            (λ j m. get_or-set_other rows i j row [] (λ e. absurd (omega arith)) ∙ f.rows_are j m)
-            (get_or-set_same rows i row [] (omega (arith, f.room)) ∙ ap (λ (q : States × List Float). q.1) e ∙ at_i);
-      }
-
-  pub passed_end : {i : ℕ} {s : States} {rows : List (List Float)} → Passed k s₀ xs i s rows → length xs ≤ i → (s ≡ over (tail_state k) s₀ xs) × Rows k s₀ xs rows
-  passed_end {i} f l = (f.here ∙ ap (over (tail_state k) s₀) (take_all i xs l), λ j m. f.rows_are j (omega arith))
+  pub passed_both : {s₁ : States} {new : List (List Float)} {q : States × List Float} (rows : List (List Float)) (s : States) (xs ys : List Float)
+      → FullStates s → length xs ≡ length ys → length xs ≤ length rows
+      → ◌≡◌ {A = States × List (List Float)} (s₁, new) (scan (tail_step k) s xs rows) → q ≡ head_pass k new s₁ xs ys → q ≡ scan (frame_of k) s xs ys
+  passed_both {new = new} rows s xs ys z l m e h =
+      h
+      ∙ ap (λ (u : States). head_pass k new u xs ys) (ap (λ (t : States × List (List Float)). t.0) e ∙ tail_states s xs rows m)
+      ∙ two_passes new s xs ys z l (rows_given s xs rows m e)
 
 -- ---- a frame of the second pass, by what its calls ensure
 

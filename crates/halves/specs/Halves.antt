@@ -42,6 +42,10 @@ head_state k s x = (head_of k s x).states
 abbrev pub tail_frame : Modes → States → Float → States × List Float
 tail_frame k s x = (tail_state k s x, last_eight (tail_of k s x).bands)
 
+-- a frame of the first pass in a block; what stood in its row is not looked at
+abbrev pub tail_step : Modes → States → Float → List Float → States × List Float
+tail_step k s x row = tail_frame k s x
+
 -- the row of each frame is what is heard of the last 8 modes there
 abbrev pub Rows : Modes → States → List Float → List (List Float) → Type 0
 Rows k s xs rows = (j : ℕ) → j < length xs → row_at rows j ≡ last_eight (tail_of k (over (tail_state k) s (take j xs)) (get_or xs j nan)).bands

@@ -3,9 +3,9 @@
 #![tactic(auto)]
 
 ghost use Rattle.std.specs.Prelude.{◌≡◌, ℕ, ◌<◌, ◌≤◌, length};
-ghost use Rattle.ground.specs.Frames.{scan, over};
+ghost use Rattle.ground.specs.Frames.{scan};
 ghost use Rattle.modes.specs.OnePass.{FullStates, frame_of};
-ghost use Rattle.halves.specs.Halves.{last_eight, row_at, take_row, tail_state, tail_frame, Rows, Fitting, head_frame, head_pass};
+ghost use Rattle.halves.specs.Halves.{last_eight, row_at, take_row, tail_frame, tail_step, Fitting, head_frame, head_pass};
 
 use modes::resonator::{Modes, States, add_batches};
 
@@ -30,7 +30,7 @@ fn tail_frame(k: &Modes, states: &mut States, row: &mut [f32; 8], x: f32)
 // Both passes take k, states and the samples: a struct of them would be made once, in `run_halves`, and taken apart in each pass.
 fn run_tail(k: &Modes, states: &mut States, in_: &[f32], rows: &mut [[f32; 8]; 64])
     requires { length in_.now ≤ 64 }
-    ensures { (states.new ≡ over (tail_state k.now) states.old in_.now) × Rows k.now states.old in_.now rows.new }
+    ensures { (states.new, rows.new) ≡ scan (tail_step k.now) states.old in_.now rows.old }
 {
     // by index: a proof knows nothing of what a zip with `iter_mut` wrote
     for i in 0..in_.len() {
@@ -69,7 +69,6 @@ fn run_head(k: &Modes, states: &mut States, in_: &[f32], out: &mut [f32], rows: 
 }
 
 // At most 64 frames through all modes.
-#[tactic(auto, using(crate::proofs::Apart::passed_both))]
 pub fn run_halves(k: &Modes, states: &mut States, in_: &[f32], out: &mut [f32])
     requires { (length in_.now ≤ 64) × (length in_.now ≡ length out.old) × FullStates states.old }
     ensures { (states.new, out.new) ≡ scan (frame_of k.now) states.old in_.now out.old }

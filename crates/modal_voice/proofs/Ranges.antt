@@ -19,27 +19,12 @@ use Rattle.noise.specs.declared.excitation.Knobs.{Knobs}
 use Rattle.noise.specs.Excitation.{raised}
 use Rattle.noise.proofs.Ranges.{Knob, Fundamental, Accepted, raised_in, exciter_in}
 use Rattle.modal_voice.specs.ModalVoice.{cutoff_for}
+use Rattle.modal_voice.specs.Tables.{exciter_semitones, strike_semitones, decay_semitones, stiffness_index, InTables}
 
 -- ---- what the tables are read at
--- the semitones of the excitation's cutoff, as cutoff_for has them
-abbrev pub exciter_semitones : Knobs → Float
-exciter_semitones k = let brightness = raised k.accent k.brightness in (brightness ⊗ (c2 ⊖ brightness) ⊖ c0·5) ⊗ cond k.sustain c36 c60
-
 pub cutoff_reads : (k : Knobs) → cutoff_for k ≡ min_f (cond k.sustain (c4 ⊗ k.f0) (c2 ⊗ k.f0) ⊗ semitones_to_ratio (exciter_semitones k)) c0·499
 unfolding cutoff_for
 cutoff_reads k = refl
-
--- those of strike_of
-abbrev pub strike_semitones : Float → Float
-strike_semitones cutoff = cutoff ⊗ cutoff ⊗ c24
-
--- those of q_sqrt in process_of
-abbrev pub decay_semitones : Float → Float
-decay_semitones damping = damping ⊗ c79·7
-
--- the first of the two neighbours that interpolate_of reads
-abbrev pub stiffness_index : Float → ℕ
-stiffness_index structure = whole_part (clamp_f structure c0 c1 ⊗ c64)
 
 -- ---- the ratio of any semitones, by one test over each table
 unfoldable all_inside : (l h : Float) → List Float → Bool
@@ -100,20 +85,6 @@ module _ (structure : Float) (f : T (fits binary32 structure)) (p : Knob structu
   stiffness_one h = rw (is_one structure f (finite_not_lt structure c1 (finite_in p) tt h) p.most)
 
 -- ---- all of it, of knobs k
-pub record InTables (k : Knobs) : Type 0 where
-  -- the excitation reads the first pitch table at 236 or below
-  pub exciter : high_index (exciter_semitones k) ≤ 236
-  -- the strike too
-  pub strike : high_index (strike_semitones (cutoff_for k)) ≤ 236
-  -- q_sqrt too
-  pub decay : high_index (decay_semitones (raised k.accent k.damping)) ≤ 236
-  -- and each reads the second, whose last entry is 255, within it
-  pub low : (semitones : Float) → low_index semitones ≤ 255
-  -- below structure 1 the neighbours i and i + 1 are entries of the stiffness table, whose last is 64
-  pub stiffness : T (lt k.structure c1) → stiffness_index k.structure + 1 ≤ 64
-  -- from structure 1 on, which is 1 alone, the stiffness is 2.0: the departure
-  pub departure : T (not (lt k.structure c1)) → interpolate_of k.structure ≡ c2
-
 pub in_tables : (k : Knobs) → Accepted k → T (fits binary32 k.structure) → InTables k
 in_tables k a f = record {
   exciter = high_in (exciter_semitones k) (exciter_in (raised_in a.accent a.brightness) (range_in k.sustain));

@@ -1,3 +1,4 @@
 -- What the functions of `modal_voice` are proved equal to.
 pub mod ModalVoice
 pub mod OneLoop
+pub mod Tables

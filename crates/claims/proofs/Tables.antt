@@ -1,0 +1,47 @@
+-- Accepted knobs reach no index past a table. Assumes nothing.
+use mathlib.Core.Path.{◌≡◌}
+use mathlib.Core.Bool.{Bool}
+use Prim.Native.Nat.{ℕ}
+use native.Mathlib.Omega.{arith}
+use lib.Dec.{ltb}
+use Rattle.ground.specs.F32.{c0, c0·5, c1}
+use Rattle.bounds.proofs.Indices.{low_in}
+use Rattle.noise.specs.declared.excitation.Knobs.{Knobs}
+use Rattle.noise.specs.Excitation.{raised}
+use Rattle.noise.proofs.Ranges.{Accepted}
+use Rattle.waveguide.specs.String.{damping_of}
+use Rattle.waveguide.proofs.Ranges.{shift_in}
+use Rattle.string_voice.proofs.Ranges.{exciter_index, damping_index}
+use Rattle.modal_voice.proofs.Ranges.{in_tables}
+use Rattle.std.specs.Prelude.{Ok}
+use Rattle.slots.specs.declared.answers.Reason.TheVariants.{Memory, NoSlot}
+use Rattle.slots.specs.Calls.{Bufs, render}
+use Rattle.slots.specs.Table.{first, within, lowest, checks, verdict}
+use Rattle.claims.specs.Tables.{StringInTables, AcceptedInTables}
+use Rattle.claims.proofs.Acts.{passed, all_passed, passes_test, f0_in, knob_in}
+
+accepted : (bad : Bool) (kind slot : ℕ) (k : Knobs) (b : Bufs) → verdict bad kind (record { slot = slot; act = render k b }) ≡ Ok tt → Accepted k
+unfolding verdict first checks
+accepted bad kind slot k b e =
+    let p = passed (ltb 7 slot) NoSlot (first (checks kind (render k b))) (passed bad Memory _ e).1 in
+    let c = all_passed (checks kind (render k b)) p.1 in
+    record {
+      f0 = f0_in k.f0 (passes_test (within lowest c0·5 k.f0) c.1.1.1.0);
+      accent = knob_in k.accent (passes_test (within c0 c1 k.accent) c.1.1.1.1.0);
+      structure = knob_in k.structure (passes_test (within c0 c1 k.structure) c.1.1.1.1.1.0);
+      brightness = knob_in k.brightness (passes_test (within c0 c1 k.brightness) c.1.1.1.1.1.1.0);
+      damping = knob_in k.damping (passes_test (within c0 c1 k.damping) c.1.1.1.1.1.1.1.0);
+    }
+
+string_in_tables : (k : Knobs) → Accepted k → StringInTables k
+string_in_tables k a =
+    record {
+      exciter = exciter_index k.accent k.brightness a.accent a.brightness;
+      damping = damping_index k.accent k.brightness a.accent a.brightness k.damping a.damping;
+      low = low_in;
+      shift = omega (arith, shift_in (damping_of k.f0 (raised k.accent k.brightness) (raised k.accent k.damping)).cutoff);
+    }
+
+pub accepted_in_tables : AcceptedInTables
+unfolding AcceptedInTables
+accepted_in_tables bad kind slot k b f e = let a = accepted bad kind slot k b e in (string_in_tables k a, in_tables k a f)
