@@ -1,13 +1,12 @@
 -- The words of a render stand in the order of its halves: the excitation's, and then the string's. Assumes nothing.
 use mathlib.Core.Path.{◌≡◌, refl, sym, ap, ◌∙◌, subst⁻¹}
 use mathlib.Core.Bool.{Bool, true, false}
-use mathlib.Core.List.{List, [], ◌++◌}
+use mathlib.Core.List.{List, ◌++◌}
 use Prim.Native.Nat.{ℕ, zero, suc, ◌+◌}
 use native.Mathlib.Omega.{arith}
 use lib.ListN.{length}
-use lib.Ieee.{Float}
-use Rattle.ground.specs.Draw.{Draw, Ran, value, ending, words}
-use Rattle.ground.proofs.Draw.{Draws, always_run, draws_always, draws_length, run_bind, words_bind, words_then}
+use Rattle.ground.specs.Draw.{Ran, value, ending, words}
+use Rattle.ground.proofs.Draw.{always_run, draws_always, draws_length, run_bind, words_bind, words_then}
 use Rattle.noise.specs.declared.excitation.Knobs.{Knobs}
 use Rattle.noise.specs.declared.excitation.Counts.{Counts}
 use Rattle.waveguide.specs.declared.string.String.{String}
@@ -19,7 +18,7 @@ use Rattle.modal_voice.proofs.Drawn as modal
 use Rattle.std.specs.Prelude.{Ok}
 use Rattle.slots.specs.Calls.{Bufs, Act, opening, reset, render, Voice, Done, string_def, modal_def, render_def, act_def}
 use Rattle.slots.specs.Table.{alike, first, checks}
-use Rattle.claims.specs.Claim.{InOrder, halves, in_halves}
+use Rattle.claims.specs.Claim.{halves, in_halves}
 use Rattle.claims.proofs.Acts.{OkSlot, Alike, alike_is, all_passed, passes_test}
 
 -- the words of an excitation are those of the burst or of the dust
@@ -78,6 +77,7 @@ order_law (render k b) v w o e p = by_kind v.slot.kind
   where
     same : Alike b
     same = alike_is b (passes_test (alike b) (all_passed (checks v.slot.kind (render k b)) p).1.0)
+
     by_kind : (kind : ℕ) → halves kind k b v w (value (render_def kind k b v) w).counts (words (render_def kind k b v) w)
     by_kind zero = tt
     by_kind (suc zero) = string_order k b v w same o e

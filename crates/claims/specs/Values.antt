@@ -1,16 +1,16 @@
 -- Values that 01 names of the ledger and of the table of refusals, each by computation. `fin s m e` is m * 2 ^ e, negative where s is true, and
 -- `negsuc k` is -(k + 1). Assumes nothing.
-use Rattle.std.specs.Prelude.{◌≡◌, refl, Bool, true, false, List, [], ◌∷◌, ◌++◌, map, ℕ, ◌+◌, get_or, set, replicate, negsuc, Float, Result, Ok, Err}
+use Rattle.std.specs.Prelude.{◌≡◌, refl, true, false, List, [], ◌∷◌, ◌++◌, map, ℕ, get_or, replicate, negsuc, Float, Result, Ok, Err}
 use Rattle.std.specs.Float.{binary32, nan, fin}
 use Rattle.std.specs.Float.Ieee.{of_bits, add, sub, mul, div, lt, le, to_unsigned}
-use Rattle.ground.specs.F32.{c0, c0·5, c1, c48000}
+use Rattle.ground.specs.F32.{c0, c0·5, c48000}
 use Rattle.noise.specs.declared.excitation.Knobs.{Knobs}
 use Rattle.slots.specs.declared.slots.Slot.{Slot}
 use Rattle.slots.specs.declared.slots.Bank.{Bank}
 use Rattle.slots.specs.declared.answers.Reason.{Reason}
 use Rattle.slots.specs.Answers.{no_counts, reason_number}
 use Rattle.slots.specs.Slots.{no_string, empty_slot, fresh, slot_at, with_slot}
-use Rattle.slots.specs.Calls.{Bufs, Act, opening, reset, render}
+use Rattle.slots.specs.Calls.{opening, reset, render}
 use Rattle.slots.specs.Table.{Call, first, within, alike, checks, bad_slot, bad_slots, bad, verdict}
 use Rattle.claims.specs.Ledger.{fresh_led, period, held_period, ratio, whole, next_phase, phase_after, steps, string_entry, render_entry, entry, line_by, line_of, ledger_from, ledger}
 
@@ -130,13 +130,13 @@ memories = map (λ (m : ℕ × ℕ). record { bank = both; memory = m.0; call = 
 
 abbrev slots : List Row
 slots = map (λ (x : Slot × ℕ). record { bank = held x.0; memory = 10240; call = struck c0·5 4; number = x.1 }) (
-  (slot_with 2 1023 255 1048576, 0)
-  ∷ (slot_with 3 0 0 0, 1)
-  ∷ (slot_with 0 1024 0 0, 1)
-  ∷ (slot_with 0 0 256 0, 1)
-  ∷ (slot_with 0 0 0 1048577, 1)
-  ∷ []
-)
+    (slot_with 2 1023 255 1048576, 0)
+    ∷ (slot_with 3 0 0 0, 1)
+    ∷ (slot_with 0 1024 0 0, 1)
+    ∷ (slot_with 0 0 256 0, 1)
+    ∷ (slot_with 0 0 0 1048577, 1)
+    ∷ []
+    )
 
 -- numbers 2 to 6: the slot, the kind, the sample rate, an empty slot, and a reset of a modal voice
 abbrev opened : ℕ → ℕ → Float → Call
@@ -191,13 +191,13 @@ asked k = rendered 0 k 4 4 4 4
 
 abbrev fundamentals : List Row
 fundamentals = map (λ (x : Float × ℕ). asked (knobs x.0 c0·5 c0·5 c0·5 c0·5) ⟹ x.1) (
-  (bits 0x35800000, 0) ∷ (bits 0x357fffff, 9) ∷ (bits 0x3f000000, 0) ∷ (bits 0x3f000001, 9) ∷ (bits 0x80000000, 9) ∷ (nan, 9) ∷ []
-)
+    (bits 0x35800000, 0) ∷ (bits 0x357fffff, 9) ∷ (bits 0x3f000000, 0) ∷ (bits 0x3f000001, 9) ∷ (bits 0x80000000, 9) ∷ (nan, 9) ∷ []
+    )
 
 abbrev of_knob : (Float → Knobs) → ℕ → List Row
 of_knob k n = map (λ (x : Float × ℕ). asked (k x.0) ⟹ x.1) (
-  (bits 0, 0) ∷ (bits 0x80000000, 0) ∷ (bits 0x80000001, n) ∷ (bits 0x3f800000, 0) ∷ (bits 0x3f800001, n) ∷ (nan, n) ∷ []
-)
+    (bits 0, 0) ∷ (bits 0x80000000, 0) ∷ (bits 0x80000001, n) ∷ (bits 0x3f800000, 0) ∷ (bits 0x3f800001, n) ∷ (nan, n) ∷ []
+    )
 
 -- calls for which all of 2 to 13 that can apply together do, and then all but those before each
 abbrev firsts : List Row

@@ -3,12 +3,9 @@ use mathlib.Core.Path.{◌≡◌, refl, sym, ◌∙◌, ap, subst}
 use mathlib.Core.List.{List, [], ◌∷◌, ◌++◌}
 use Prim.Native.Nat.{ℕ, zero, suc, ◌+◌, ◌<◌, ◌≤◌}
 use native.Mathlib.Nat.{not-suc-le-zero, le_of_suc-le-suc}
-use native.Mathlib.Numerals.{add-one}
 use native.Mathlib.Omega.{arith}
-use borrow.Author.Count.{below_more}
 use lib.Dec.{T}
-use lib.ListN.{get_or, length, set, take, drop, replicate, length-set}
-use lib.Seq.{get_or-set_same, get_or-set_other, take_all}
+use lib.ListN.{get_or, length, set, take, drop, replicate}
 use lib.Ieee.{Float, nan, binary32, fits}
 use lib.Ieee.Fits.{mul-fits, nan-fits}
 use lib.Ieee.Bits.{of_bits-fits}

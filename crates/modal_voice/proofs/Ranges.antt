@@ -2,13 +2,13 @@
 use mathlib.Core.Path.{◌≡◌, refl}
 use mathlib.Core.Bool.{Bool, true, not, ◌&&◌, cond}
 use mathlib.Core.List.{List, [], ◌∷◌}
-use Prim.Native.Nat.{ℕ, zero, suc, ◌+◌, ◌≤◌}
+use Prim.Native.Nat.{ℕ, zero, suc, ◌≤◌}
 use native.Mathlib.Omega.{arith}
 use lib.Dec.{T}
 use lib.Ieee.{Float, binary32, of_bits, fits, lt, le, mul, to_unsigned}
 use Rattle.resources.specs.Table.{entry}
 use Rattle.resources.specs.Pitch.{pitch_ratio_high, pitch_ratio_low}
-use Rattle.ground.specs.F32.{◌⊖◌, ◌⊗◌, c0, c0·499, c0·5, c1, c2, c4, c24, c36, c60, c64, c72, c79·7}
+use Rattle.ground.specs.F32.{◌⊗◌, c0, c0·499, c1, c2, c4, c24, c36, c60, c64, c72, c79·7}
 use Rattle.ground.specs.Floats.{whole_part, min_f, clamp_f}
 use Rattle.utils.specs.Units.{high_index, low_index, semitones_to_ratio}
 use Rattle.utils.specs.Utils.{interpolate_of}
