@@ -2,6 +2,11 @@
 //!
 //! What the library leaves to its caller, that no pointer is null and no two overlap, the types here give: every slice is lent
 //! by itself.
+//!
+//! The proofs take floats as a process has them at its start: rounded to nearest, with subnormal numbers. Audio hosts often set the
+//! processor otherwise. So [`open`], [`reset`] and [`render`] set aside the caller's MXCSR, work in that of a process at its start,
+//! and restore the whole register, with the flags of its exceptions: they give the same bits in every setting, and leave no trace
+//! in it. [`fresh`] computes no float.
 
 use crate::bank::{Buffers, Counts, Knobs};
 
@@ -23,6 +28,7 @@ pub struct Answer {
 #[allow(unsafe_code)]
 mod exported {
     use super::{Answer, Buffers, Counts, Knobs};
+    use std::arch::asm;
 
     unsafe extern "C" {
         safe fn bleidhvan_bank_bytes() -> usize;
@@ -76,6 +82,41 @@ mod exported {
         ) -> u32;
     }
 
+    /// MXCSR at the start of a process: round to nearest, subnormal numbers as they are, no exception unmasked, none raised.
+    const DEFAULT: u32 = 0x1f80;
+
+    /// The caller's MXCSR, which is restored where this is dropped.
+    struct SetAside(u32);
+
+    impl SetAside {
+        fn new() -> Self {
+            let mut caller = 0u32;
+            // The register is written to a number that is ours.
+            unsafe { asm!("stmxcsr [{}]", in(reg) &mut caller, options(nostack, preserves_flags)) };
+            load(DEFAULT);
+            SetAside(caller)
+        }
+    }
+
+    impl Drop for SetAside {
+        fn drop(&mut self) {
+            load(self.0);
+        }
+    }
+
+    /// Sets MXCSR, to the default or to what it was.
+    fn load(mxcsr: u32) {
+        // Both are values that the processor takes, and the second is the one that the caller's code was made for.
+        unsafe { asm!("ldmxcsr [{}]", in(reg) &mxcsr, options(nostack)) };
+    }
+
+    /// Calls in the environment that the proofs take. Whoever uses it is a function of its own, so that no float of the caller's is
+    /// computed in it.
+    pub(crate) fn in_default_environment<R>(call: impl FnOnce() -> R) -> R {
+        let _restored = SetAside::new();
+        call()
+    }
+
     /// The bytes of a bank.
     pub fn bank_bytes() -> usize {
         bleidhvan_bank_bytes()
@@ -88,6 +129,7 @@ mod exported {
     }
 
     /// Opens a slot, and gives the table's number.
+    #[inline(never)]
     pub fn open(
         bank: &mut [u8],
         lines: &mut [f32],
@@ -96,7 +138,7 @@ mod exported {
         sample_rate_hz: f32,
     ) -> u32 {
         // Each slice is lent whole, and to nobody else.
-        unsafe {
+        in_default_environment(|| unsafe {
             bleidhvan_open(
                 bank.as_mut_ptr(),
                 bank.len(),
@@ -106,15 +148,16 @@ mod exported {
                 kind,
                 sample_rate_hz,
             )
-        }
+        })
     }
 
     /// Resets a string, and gives the table's number.
+    #[inline(never)]
     pub fn reset(bank: &mut [u8], lines: &mut [f32], slot: usize) -> u32 {
         // Each slice is lent whole, and to nobody else.
-        unsafe {
+        in_default_environment(|| unsafe {
             bleidhvan_reset(bank.as_mut_ptr(), bank.len(), lines.as_mut_ptr(), lines.len(), slot)
-        }
+        })
     }
 
     /// Renders a block of a slot's voice; the word is the generator's.
@@ -123,6 +166,7 @@ mod exported {
     /// gives the same bits.
     ///
     /// [`slow_subnormals`]: crate::slow_subnormals
+    #[inline(never)]
     pub fn render(
         bank: &mut [u8],
         lines: &mut [f32],
@@ -136,7 +180,7 @@ mod exported {
         let [temp, temp_2, out, aux] = buffers;
         let Counts { mut burst, mut dust, mut dispersion } = Counts::default();
         // Each slice and each number is lent whole, and to nobody else.
-        let number = unsafe {
+        let number = in_default_environment(|| unsafe {
             bleidhvan_render(
                 bank.as_mut_ptr(),
                 bank.len(),
@@ -164,9 +208,10 @@ mod exported {
                 &mut dispersion,
                 slow_subnormals,
             )
-        };
+        });
         Answer { number, counts: Counts { burst, dust, dispersion } }
     }
 }
 
+pub(crate) use exported::in_default_environment;
 pub use exported::{bank_bytes, fresh, open, render, reset};

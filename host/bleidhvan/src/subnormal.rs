@@ -1,5 +1,6 @@
 //! Whether subnormal numbers are slow on this processor.
 
+use crate::raw::in_default_environment;
 use std::hint::black_box;
 use std::sync::OnceLock;
 use std::time::{Duration, Instant};
@@ -18,15 +19,15 @@ const SUMMANDS: [f32; 2] = [0.3, 3e-40];
 
 /// Whether a multiplication of subnormal numbers takes this processor long.
 ///
-/// It is timed once per process, at the first call, in some tens of microseconds. [`Bank::render`] hands the answer on to
-/// [`raw::render`]: it changes no bit of any result, only the time.
+/// It is timed once per process, at the first call, in some tens of microseconds, in the environment in which a render runs.
+/// [`Bank::render`] hands the answer on to [`raw::render`]: it changes no bit of any result, only the time.
 ///
 /// [`raw::render`]: crate::raw::render
 /// [`Bank::render`]: crate::Bank::render
 pub fn slow_subnormals() -> bool {
     static FOUND: OnceLock<bool> = OnceLock::new();
     *FOUND.get_or_init(|| {
-        let [normal, subnormal] = times();
+        let [normal, subnormal] = in_default_environment(times);
         subnormal > SLOW * normal
     })
 }
