@@ -6,7 +6,7 @@
 //! The proofs take floats as a process has them at its start: rounded to nearest, with subnormal numbers. Audio hosts often set the
 //! processor otherwise. So [`open`], [`reset`] and [`render`] set aside the caller's MXCSR, work in that of a process at its start,
 //! and restore the whole register, with the flags of its exceptions: they give the same bits in every setting, and leave no trace
-//! in it. [`fresh`] computes no float.
+//! in it. [`fresh`] has no floats. [`exported`] has the functions with no such guard.
 
 use crate::bank::{Buffers, Counts, Knobs};
 
@@ -25,17 +25,21 @@ pub struct Answer {
     pub counts: Counts,
 }
 
+/// The functions of the library themselves, with nothing around them.
+///
+/// What they ask of a caller stands in docs/ABI.md: that each pointer has what its length says and nothing is lent twice, and the
+/// floating-point environment of a process at its start.
 #[allow(unsafe_code)]
-mod exported {
-    use super::{Answer, Buffers, Counts, Knobs};
-    use std::arch::asm;
-
+pub mod exported {
     unsafe extern "C" {
-        safe fn bleidhvan_bank_bytes() -> usize;
+        /// The length of a bank in bytes.
+        pub safe fn bleidhvan_bank_bytes() -> usize;
 
-        fn bleidhvan_fresh(bank: *mut u8, bank_len: usize) -> u32;
+        /// The bytes become a fresh bank.
+        pub fn bleidhvan_fresh(bank: *mut u8, bank_len: usize) -> u32;
 
-        fn bleidhvan_open(
+        /// A slot is opened.
+        pub fn bleidhvan_open(
             bank: *mut u8,
             bank_len: usize,
             lines: *mut f32,
@@ -45,7 +49,8 @@ mod exported {
             sample_rate_hz: f32,
         ) -> u32;
 
-        fn bleidhvan_reset(
+        /// A string slot is reset.
+        pub fn bleidhvan_reset(
             bank: *mut u8,
             bank_len: usize,
             lines: *mut f32,
@@ -53,7 +58,8 @@ mod exported {
             slot: usize,
         ) -> u32;
 
-        fn bleidhvan_render(
+        /// A block of a slot's voice.
+        pub fn bleidhvan_render(
             bank: *mut u8,
             bank_len: usize,
             lines: *mut f32,
@@ -81,6 +87,15 @@ mod exported {
             slow_subnormals: bool,
         ) -> u32;
     }
+}
+
+#[allow(unsafe_code)]
+mod guarded {
+    use super::exported::{
+        bleidhvan_bank_bytes, bleidhvan_fresh, bleidhvan_open, bleidhvan_render, bleidhvan_reset,
+    };
+    use super::{Answer, Buffers, Counts, Knobs};
+    use std::arch::asm;
 
     /// MXCSR at the start of a process: round to nearest, subnormal numbers as they are, no exception unmasked, none raised.
     const DEFAULT: u32 = 0x1f80;
@@ -213,5 +228,5 @@ mod exported {
     }
 }
 
-pub(crate) use exported::in_default_environment;
-pub use exported::{bank_bytes, fresh, open, render, reset};
+pub(crate) use guarded::in_default_environment;
+pub use guarded::{bank_bytes, fresh, open, render, reset};

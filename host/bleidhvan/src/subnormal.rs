@@ -26,10 +26,13 @@ const SUMMANDS: [f32; 2] = [0.3, 3e-40];
 /// [`Bank::render`]: crate::Bank::render
 pub fn slow_subnormals() -> bool {
     static FOUND: OnceLock<bool> = OnceLock::new();
-    *FOUND.get_or_init(|| {
-        let [normal, subnormal] = in_default_environment(times);
-        subnormal > SLOW * normal
-    })
+    *FOUND.get_or_init(found)
+}
+
+#[inline(never)]
+fn found() -> bool {
+    let [normal, subnormal] = in_default_environment(times);
+    subnormal > SLOW * normal
 }
 
 /// The shortest times of the chains of both summands, which are timed in turn.

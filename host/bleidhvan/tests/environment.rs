@@ -1,6 +1,6 @@
 //! The calls in every floating-point environment that a caller may have set: the same bits, and the caller's environment after it.
 
-use bleidhvan::raw::{self, Answer, LINES, SLOT_BYTES};
+use bleidhvan::raw::{self, Answer, LINES, SLOT_BYTES, exported};
 use bleidhvan::{Bank, Counts, Kind, Knobs, Refusal};
 use std::arch::asm;
 use std::env;
@@ -18,49 +18,6 @@ const TO_ZERO: u32 = 3 << 13;
 const MASKS: u32 = 0x1f80;
 /// The flags of the six exceptions.
 const FLAGS: u32 = 0x3f;
-
-/// The exported calls with no guard around them.
-mod unguarded {
-    unsafe extern "C" {
-        pub fn bleidhvan_open(
-            bank: *mut u8,
-            bank_len: usize,
-            lines: *mut f32,
-            lines_len: usize,
-            slot: usize,
-            kind: u32,
-            sample_rate_hz: f32,
-        ) -> u32;
-
-        pub fn bleidhvan_render(
-            bank: *mut u8,
-            bank_len: usize,
-            lines: *mut f32,
-            lines_len: usize,
-            word: &mut u32,
-            slot: usize,
-            sustain: bool,
-            trigger: bool,
-            accent: f32,
-            f0: f32,
-            structure: f32,
-            brightness: f32,
-            damping: f32,
-            temp: *mut f32,
-            temp_len: usize,
-            temp_2: *mut f32,
-            temp_2_len: usize,
-            out: *mut f32,
-            out_len: usize,
-            aux: *mut f32,
-            aux_len: usize,
-            burst: &mut usize,
-            dust: &mut usize,
-            dispersion: &mut usize,
-            slow_subnormals: bool,
-        ) -> u32;
-    }
-}
 
 /// Calls with MXCSR at a value, and gives MXCSR after the call. What is called computes no float of its own, and the test's own
 /// MXCSR is restored in the same block.
@@ -147,7 +104,7 @@ impl World {
         let Counts { mut burst, mut dust, mut dispersion } = Counts::default();
         let number = match *call {
             Call::Open(slot, kind, rate) => unsafe {
-                unguarded::bleidhvan_open(bytes, size, numbers, count, slot, kind, rate)
+                exported::bleidhvan_open(bytes, size, numbers, count, slot, kind, rate)
             },
             Call::Reset(_) => unreachable!("a reset computes no float"),
             Call::Render(
@@ -156,7 +113,7 @@ impl World {
             ) => {
                 let [temp, temp_2, out, aux] = buffers;
                 unsafe {
-                    unguarded::bleidhvan_render(
+                    exported::bleidhvan_render(
                         bytes,
                         size,
                         numbers,
