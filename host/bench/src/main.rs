@@ -1,4 +1,5 @@
-//! Times the port's leaves, voices and exported calls beside the Rust's: both built for release, alternated in one run, the ratio of each pair taken.
+//! Times the port's leaves, voices and exported calls beside the Rust's, and the wrapper's guard beside none: both built for release, alternated in one run, the ratio of
+//! each pair taken.
 
 use std::process::ExitCode;
 
@@ -6,6 +7,8 @@ use std::process::ExitCode;
 mod banks;
 #[cfg(not(any(no_plaits, no_leaves)))]
 mod buffers;
+#[cfg(not(any(no_plaits, no_leaves)))]
+mod guard;
 #[cfg(not(any(no_plaits, no_leaves)))]
 mod leaves;
 #[cfg(not(any(no_plaits, no_leaves)))]
@@ -25,6 +28,7 @@ fn main() -> ExitCode {
     strings::all();
     modals::all();
     banks::all();
+    guard::all();
     ExitCode::SUCCESS
 }
 

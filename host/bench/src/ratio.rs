@@ -11,19 +11,25 @@ fn seconds(work: &mut impl FnMut()) -> f64 {
 }
 
 /// Prints the median of the port's time over the Rust's, with its first and last tenth.
-pub fn compare(name: &str, mut rust: impl FnMut(), mut port: impl FnMut()) {
+pub fn compare(name: &str, rust: impl FnMut(), port: impl FnMut()) {
+    beside(name, "the Rust's time", 2, rust, port);
+}
+
+/// Prints the median of the second one's time over the first one's, with its first and last tenth, to so many digits.
+pub fn beside(name: &str, of: &str, digits: usize, mut one: impl FnMut(), mut other: impl FnMut()) {
     let mut ratios: Vec<f64> = (0..PAIRS)
         .map(|pair| {
             if pair % 2 == 0 {
-                let first = seconds(&mut rust);
-                seconds(&mut port) / first
+                let first = seconds(&mut one);
+                seconds(&mut other) / first
             } else {
-                let first = seconds(&mut port);
-                first / seconds(&mut rust)
+                let first = seconds(&mut other);
+                first / seconds(&mut one)
             }
         })
         .collect();
     ratios.sort_by(f64::total_cmp);
     let tenth = |k: usize| ratios[(PAIRS - 1) * k / 10];
-    println!("{name}: {:.2} of the Rust's time ({:.2} to {:.2})", tenth(5), tenth(1), tenth(9));
+    let [low, middle, high] = [1, 5, 9].map(tenth);
+    println!("{name}: {middle:.digits$} of {of} ({low:.digits$} to {high:.digits$})");
 }
