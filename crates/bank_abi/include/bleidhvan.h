@@ -60,7 +60,7 @@ size_t bleidhvan_bank_bytes(void);
 /* The bytes become a fresh bank, every slot of it empty: 0, or 1 where their length is another. */
 uint32_t bleidhvan_fresh(uint8_t *bank, size_t bank_len);
 
-/* A slot is opened with a new voice of the kind, whatever it held, and its lines are cleared: 0, or 1 to 4. */
+/* A slot is opened with a new voice of the kind, whatever it held: 0, or 1 to 4. Every field of the other kind becomes 0, and so do the slot's 1,280 numbers of line memory. */
 uint32_t bleidhvan_open(uint8_t *bank, size_t bank_len, float *lines, size_t lines_len, size_t slot, uint32_t kind, float sample_rate_hz);
 
 /* A string slot is reset, and its lines are cleared; what is left of a burst stays: 0, or 1, 2, 5 or 6. */
@@ -68,7 +68,8 @@ uint32_t bleidhvan_reset(uint8_t *bank, size_t bank_len, float *lines, size_t li
 
 /* A block of a slot's voice: 0, or 1, 2, 5, or 7 to 13. The four buffers have one length, the frames of the block, which may be 0. temp and temp_2 are written over;
    the sound is added to out, and what excites it to aux.
-   sustain: whether the voice is excited all along; trigger: whether it is struck at the first frame.
+   sustain: whether the voice is excited all along; trigger: whether it is struck at the first frame. Struck in a block of no frames, a modal voice keeps the strike.
+   accent: how hard a strike is; structure: the string's non-linearity, the stiffness of the modes; brightness of the excitation; damping: how long the sound rings.
    f0: the pitch as a fraction of the sample rate, of which 0.5 is half: in hertz it is f0 times the sample rate at which the slot was opened.
    word: the generator's, at first the seed. Each word drawn moves it once, to word * 1664525 + 1013904223 modulo 2^32.
    burst, dust, dispersion: how many words were drawn for the noise of a strike, for the noise of sustain, and for the string's dispersion.
