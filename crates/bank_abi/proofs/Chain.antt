@@ -20,7 +20,7 @@ use Rattle.claims.specs.Claim.{Account, Asked, calls_of, Demand3}
 use Rattle.claims.proofs.Whole.{demand_3}
 use Rattle.slot_bytes.specs.Words.{words}
 use Rattle.slot_bytes.specs.Layout.{decode_bank, encode_bank, parts, decode_slot, slot_in, voice_in, string_in, svf_in, dc_in, modal_in, mode_in, batch_in}
-use Rattle.bank_abi.specs.Crossing.{is_bank, bad_flags, Crossing, world_of, Crossed, numbers_of, decoded, Gives, Made, calls_made, Session, ExportedDemand3}
+use Rattle.bank_abi.specs.Crossing.{is_bank, bad_flags, Crossing, world_of, Crossed, numbers_of, decoded, Made, calls_made, ExportedDemand3}
 use Rattle.bank_abi.proofs.Zeros.{fresh_zeros}
 
 chain : (rs : List (Call × Crossed)) (x : Crossing) → is_bank x.bytes ≡ true → Made x rs

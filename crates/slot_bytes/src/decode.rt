@@ -1,5 +1,5 @@
 // A slot from its 393 bytes.
-ghost use Rattle.std.specs.Prelude.{◌≡◌, ◌+◌, ◌*◌, ◌≤◌, ◌<◌, eqb, length, get_or};
+ghost use Rattle.std.specs.Prelude.{◌≡◌, ◌/◌, ◌+◌, ◌*◌, ◌≤◌, ◌<◌, eqb, length, get_or};
 ghost use Rattle.slots.specs.Slots.{slot_at};
 ghost use Rattle.slot_bytes.specs.Layout.{string_in, voice_in, modal_in, decode_slot, parts, decode_bank};
 ghost use Rattle.slot_bytes.specs.Words.{words};
@@ -69,9 +69,10 @@ fn slot_at(b: &[u8; 393]) -> Slot
     }
 }
 
-// The bytes of each slot of a bank.
+// The bytes of each slot of a bank, and of bytes of another length as many as there are whole.
 #[tactic(auto, using(crate::proofs::Parts::parts_are))]
 pub fn slots_of(bytes: &[u8]) -> &[[u8; 393]]
+    ensures all { result.now ≡ parts (length bytes.now / 393) bytes.now }
     ensures parts { length bytes.now ≡ 3144 → result.now ≡ parts 8 bytes.now }
     ensures eight { length bytes.now ≡ 3144 → length result.now ≡ 8 }
 {
