@@ -12,6 +12,7 @@ pub const NUMBERS: [usize; 4] = [KIND, STRING, STRETCH, LEFT];
 const KIND: usize = 0;
 const STRING: usize = 6;
 const STRETCH: usize = 7;
+const DELAY: usize = 16;
 const LEFT: usize = 23;
 
 /// The place of the flag behind the words.
@@ -28,6 +29,16 @@ fn word(slot: &[u8], place: usize) -> u32 {
     let word = u32::from_le_bytes(bytes);
     let is_nan = f32::from_bits(word).is_nan() && !NUMBERS.contains(&place);
     if is_nan { NAN } else { word }
+}
+
+/// The write place of a slot's string line, which moves with every step of the string.
+pub fn string_place(slot: &[u8]) -> u32 {
+    word(slot, STRING)
+}
+
+/// The bits of a slot's string delay.
+pub fn delay(slot: &[u8]) -> u32 {
+    word(slot, DELAY)
 }
 
 /// A slot's record in the order of docs/RECORD.md.

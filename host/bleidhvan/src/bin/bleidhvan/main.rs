@@ -1,5 +1,6 @@
 //! Renders sheets of notes.
 
+mod blocks;
 mod catalogue;
 mod note;
 mod page;
@@ -10,6 +11,7 @@ mod run;
 mod sheet;
 mod wav;
 
+use blocks::LONG;
 use progress::{Counted, Progress};
 use render::Settings;
 use run::Sum;
@@ -104,7 +106,8 @@ fn read(words: Vec<String>) -> Result<Asked, String> {
         }
         None => return Err("write 'bleidhvan render SHEET -o DIR'".into()),
     }
-    let settings = Settings { seed: 0, rate: 48000, format: Format::Float32, aux: false };
+    let format = Format::Float32;
+    let settings = Settings { seed: 0, rate: 48000, format, aux: false, longest: LONG };
     let (mut sheet, mut folder) = (None, None);
     let mut asked =
         Asked { sheet: String::new(), folder: PathBuf::new(), settings, jobs: 1, is_quiet: false };

@@ -1,13 +1,11 @@
 //! A note rendered to a file, block by block through a bank of its own.
 
+use crate::blocks::{Block, Blocks, SHORT};
 use crate::note::{Fault, Note};
 use crate::wav::{Format, Wav};
-use bleidhvan::{Bank, Counts, Knobs};
+use bleidhvan::{Bank, Counts};
 use std::io;
 use std::path::Path;
-
-/// The frames of a block, as many as the instrument itself renders at once.
-const BLOCK: usize = 24;
 
 /// The columns of a drawn waveform.
 pub const COLUMNS: usize = 240;
@@ -20,6 +18,8 @@ pub struct Settings {
     pub format: Format,
     /// Whether aux is a second channel.
     pub aux: bool,
+    /// The frames of the longest block. No byte of a file hangs on it, to which the tests hold it.
+    pub longest: usize,
 }
 
 /// What was rendered.
@@ -65,47 +65,53 @@ pub fn render(
         let reason = "the note is longer than a WAV file can be".to_string();
         return Err(Failure::Refused(Fault::row(reason)));
     }
-    let mut blocks = Blocks { bank, knobs: note.knobs, buffers: [[0.0; BLOCK]; 4] };
+    let mut blocks = Blocks::new(bank, note, settings.longest);
     let mut rendered = Rendered::new(frames);
     let mut wav = None;
     // A note of no frames is one block of none, so that its knobs are read as any other's.
     while wav.is_none() || rendered.done < frames {
-        let n = BLOCK.min((frames - rendered.done) as usize);
-        let counts = blocks.next(n).map_err(refused)?;
-        let [_, _, out, aux] = &blocks.buffers;
-        let both = [&out[..n], &aux[..n]];
+        let Block { out, aux, counts } = blocks.next(frames - rendered.done).map_err(refused)?;
+        let heard = &[out, aux][..channels as usize];
+        if settings.longest > SHORT && heard.iter().any(|channel| has_nan(channel)) {
+            // A NaN has many bits, and which of them are heard hangs on where the blocks end.
+            drop(wav);
+            let short = Settings { longest: SHORT, ..*settings };
+            return render(name, note, label, &short, path);
+        }
         let file = match &mut wav {
             Some(file) => file,
             None => wav.insert(Wav::create(path, settings.format, channels, settings.rate)?),
         };
-        file.write(&both[..channels as usize])?;
-        rendered.add(&out[..n], counts);
+        file.write(heard)?;
+        rendered.add(out, counts);
     }
     wav.map_or(Ok(()), Wav::finish)?;
     Ok(rendered)
 }
 
+/// Whether a sample is a NaN; all are looked at, many at once.
+fn has_nan(samples: &[f32]) -> bool {
+    samples.iter().fold(false, |found, sample| found | sample.is_nan())
+}
+
+/// The lowest and the highest of a range and of samples, a NaN left out.
+fn widened([low, high]: [f32; 2], samples: &[f32]) -> [f32; 2] {
+    let (lanes, rest) = samples.as_chunks::<8>();
+    let (mut lows, mut highs) = ([low; 8], [high; 8]);
+    for samples in lanes {
+        for (k, sample) in samples.iter().enumerate() {
+            lows[k] = lows[k].min(*sample);
+            highs[k] = highs[k].max(*sample);
+        }
+    }
+    let low = lows.iter().chain(rest).fold(low, |low, sample| low.min(*sample));
+    let high = highs.iter().chain(rest).fold(high, |high, sample| high.max(*sample));
+    [low, high]
+}
+
 impl From<io::Error> for Failure {
     fn from(error: io::Error) -> Self {
         Failure::Unwritten(error)
-    }
-}
-
-/// A voice played block after block.
-struct Blocks {
-    bank: Bank,
-    knobs: Knobs,
-    buffers: [[f32; BLOCK]; 4],
-}
-
-impl Blocks {
-    /// The next n frames, in buffers that were silent.
-    fn next(&mut self, n: usize) -> Result<Counts, bleidhvan::Refusal> {
-        self.buffers = [[0.0; BLOCK]; 4];
-        let buffers = self.buffers.each_mut().map(|buffer| &mut buffer[..n]);
-        let counts = self.bank.render(0, &self.knobs, buffers)?;
-        self.knobs.trigger = false;
-        Ok(counts)
     }
 }
 
@@ -120,13 +126,19 @@ impl Rendered {
         self.burst += counts.burst as u64;
         self.dust += counts.dust as u64;
         self.dispersion += counts.dispersion as u64;
-        for sample in out {
-            self.peak = self.peak.max(sample.abs());
-            let column = self.done * COLUMNS as u64 / self.frames;
-            let [low, high] = &mut self.wave[column as usize];
-            *low = low.min(*sample);
-            *high = high.max(*sample);
-            self.done += 1;
+        let columns = COLUMNS as u64;
+        let mut rest = out;
+        while !rest.is_empty() {
+            let column = self.done * columns / self.frames;
+            // The first frame of the next column.
+            let next = ((column + 1) * self.frames).div_ceil(columns);
+            let n = (rest.len() as u64).min(next - self.done);
+            let (samples, later) = rest.split_at(n as usize);
+            let [low, high] = widened(self.wave[column as usize], samples);
+            self.wave[column as usize] = [low, high];
+            self.peak = self.peak.max(low.abs()).max(high);
+            self.done += n;
+            rest = later;
         }
     }
 }

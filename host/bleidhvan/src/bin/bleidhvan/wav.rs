@@ -91,11 +91,14 @@ pub struct Wav {
     channels: u32,
     rate: u32,
     frames: u32,
+    /// A block's bytes.
+    block: Vec<u8>,
 }
 
 impl Wav {
     pub fn create(path: &Path, format: Format, channels: u32, rate: u32) -> io::Result<Self> {
-        let mut wav = Wav { part: Part::create(path)?, format, channels, rate, frames: 0 };
+        let part = Part::create(path)?;
+        let mut wav = Wav { part, format, channels, rate, frames: 0, block: vec![] };
         wav.part.write_all(&vec![0; format.header_bytes() as usize])?;
         Ok(wav)
     }
@@ -107,17 +110,12 @@ impl Wav {
 
     /// Adds a block, its channels side by side.
     pub fn write(&mut self, channels: &[&[f32]]) -> io::Result<()> {
-        let frames = channels.first().map_or(0, |channel| channel.len());
-        for k in 0..frames {
-            for channel in channels {
-                let sample = channel[k];
-                match self.format {
-                    Format::Float32 => self.part.write_all(&sample.to_le_bytes())?,
-                    Format::Int16 => self.part.write_all(&int16(sample).to_le_bytes())?,
-                }
-            }
+        match self.format {
+            Format::Float32 => interleave(channels, f32::to_le_bytes, &mut self.block),
+            Format::Int16 => interleave(channels, |x| int16(x).to_le_bytes(), &mut self.block),
         }
-        self.frames += frames as u32;
+        self.part.write_all(&self.block)?;
+        self.frames += channels.first().map_or(0, |channel| channel.len()) as u32;
         Ok(())
     }
 
@@ -153,6 +151,22 @@ impl Wav {
         header.extend(b"data");
         header.extend(data.to_le_bytes());
         header
+    }
+}
+
+/// The bytes of every sample, the channels side by side.
+fn interleave<const N: usize>(
+    channels: &[&[f32]],
+    bytes_of: impl Fn(f32) -> [u8; N],
+    bytes: &mut Vec<u8>,
+) {
+    bytes.resize(N * channels.iter().map(|channel| channel.len()).sum::<usize>(), 0);
+    let (words, _) = bytes.as_chunks_mut();
+    for (first, channel) in channels.iter().enumerate() {
+        let places = words.iter_mut().skip(first).step_by(channels.len());
+        for (word, sample) in places.zip(*channel) {
+            *word = bytes_of(*sample);
+        }
     }
 }
 
