@@ -163,16 +163,17 @@ fn interleave<const N: usize>(
     bytes.resize(N * channels.iter().map(|channel| channel.len()).sum::<usize>(), 0);
     let (words, _) = bytes.as_chunks_mut();
     for (first, channel) in channels.iter().enumerate() {
-        let places = words.iter_mut().skip(first).step_by(channels.len());
-        for (word, sample) in places.zip(*channel) {
-            *word = bytes_of(*sample);
+        for (frame, sample) in words.chunks_exact_mut(channels.len()).zip(*channel) {
+            frame[first] = bytes_of(*sample);
         }
     }
 }
 
 /// The nearest of 65,536 steps, held to -1 to 1; a NaN is silent.
 fn int16(sample: f32) -> i16 {
-    (sample.clamp(-1.0, 1.0) * 32767.0).round() as i16
+    // Far below half a step it is 0, and a product that may be subnormal would take long.
+    let heard = if sample.abs() < 1e-6 { 0.0 } else { sample };
+    (heard.clamp(-1.0, 1.0) * 32767.0).round() as i16
 }
 
 #[cfg(test)]
@@ -181,7 +182,15 @@ mod tests {
 
     #[test]
     fn sixteen_bits_are_held_and_rounded() {
-        let cases = [(0.0, 0), (1.0, 32767), (2.0, 32767), (-1.0, -32767), (f32::NAN, 0)];
+        let cases = [
+            (0.0, 0),
+            (1.0, 32767),
+            (2.0, 32767),
+            (-1.0, -32767),
+            (f32::NAN, 0),
+            (1e-6, 0),
+            (-1e-40, 0),
+        ];
         for (sample, step) in cases {
             assert_eq!(int16(sample), step);
         }
