@@ -10,6 +10,8 @@ mod buffers;
 #[cfg(not(any(no_plaits, no_leaves)))]
 mod guard;
 #[cfg(not(any(no_plaits, no_leaves)))]
+mod keyboard;
+#[cfg(not(any(no_plaits, no_leaves)))]
 mod leaves;
 #[cfg(not(any(no_plaits, no_leaves)))]
 mod modals;
@@ -28,6 +30,7 @@ fn main() -> ExitCode {
     strings::all();
     modals::all();
     banks::all();
+    keyboard::all();
     guard::all();
     ExitCode::SUCCESS
 }

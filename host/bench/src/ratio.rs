@@ -15,9 +15,9 @@ pub fn compare(name: &str, rust: impl FnMut(), port: impl FnMut()) {
     beside(name, "the Rust's time", 2, rust, port);
 }
 
-/// Prints the median of the second one's time over the first one's, with its first and last tenth, to so many digits.
-pub fn beside(name: &str, of: &str, digits: usize, mut one: impl FnMut(), mut other: impl FnMut()) {
-    let mut ratios: Vec<f64> = (0..PAIRS)
+/// The times of the second one over the first one's, of so many pairs, from the least on.
+fn ratios(pairs: usize, mut one: impl FnMut(), mut other: impl FnMut()) -> Vec<f64> {
+    let mut ratios: Vec<f64> = (0..pairs)
         .map(|pair| {
             if pair % 2 == 0 {
                 let first = seconds(&mut one);
@@ -29,6 +29,17 @@ pub fn beside(name: &str, of: &str, digits: usize, mut one: impl FnMut(), mut ot
         })
         .collect();
     ratios.sort_by(f64::total_cmp);
+    ratios
+}
+
+/// The median of the second one's time over the first one's, of so many pairs.
+pub fn median(pairs: usize, one: impl FnMut(), other: impl FnMut()) -> f64 {
+    ratios(pairs, one, other)[pairs / 2]
+}
+
+/// Prints the median of the second one's time over the first one's, with its first and last tenth, to so many digits.
+pub fn beside(name: &str, of: &str, digits: usize, one: impl FnMut(), other: impl FnMut()) {
+    let ratios = ratios(PAIRS, one, other);
     let tenth = |k: usize| ratios[(PAIRS - 1) * k / 10];
     let [low, middle, high] = [1, 5, 9].map(tenth);
     println!("{name}: {middle:.digits$} of {of} ({low:.digits$} to {high:.digits$})");
