@@ -21,14 +21,14 @@ use Rattle.modes.specs.declared.resonator.Mode.{Mode}
 use Rattle.modes.specs.declared.resonator.Modes.{Modes}
 use Rattle.modes.specs.declared.resonator.States.{States}
 use Rattle.noise.specs.declared.ahead.Passed.{Passed}
-use Rattle.noise.specs.Ahead.{Stays, ahead_of}
+use Rattle.noise.specs.Ahead.{ahead_of}
 use Rattle.noise.proofs.OneAhead.{ahead_step, ahead_end}
 use Rattle.modal_voice.specs.declared.modal_voice.LowPass.{LowPass}
 use Rattle.modal_voice.specs.declared.modal_voice.ModalVoice.{ModalVoice}
 use Rattle.modes.specs.Resonator.{mode_of, low_block}
 use Rattle.modes.specs.OnePass.{modes_for, states_of, filters_of, frame_of, one_pass}
 use Rattle.modal_voice.specs.ModalVoice.{cutoff_for, resonance_for, excitation, held_after, excitation_words, excitation_counts, render_of}
-use Rattle.modal_voice.specs.OneLoop.{Framed, frames_of, low_pass, Sung, sung_of, Sings, has_same_memory, filter_of}
+use Rattle.modal_voice.specs.OneLoop.{Framed, frames_of, low_pass, Sung, sung_of, Sings, filter_of}
 use Rattle.modes.proofs.OnePass.{processed}
 use Rattle.modal_voice.proofs.Halves.{excited, sounded, rendered}
 
@@ -39,14 +39,6 @@ pub record Block (temp temp2 aux filtered : List Float) (n : ℕ) : Type 0 where
   pub aux_size : length aux ≡ n
   pub filtered_size : length filtered ≡ n
   pub small : n * 4 < 2 ^ 63
-
--- two memories of one filter
-pub same_memory : (s t : ResonatorSvf) → s.state_1 ≡ t.state_1 → s.state_2 ≡ t.state_2 → s ≡ t
-same_memory s t e f = λ i. record { state_1 = e i; state_2 = f i }
-
--- whether two excitation filters keep the same
-abbrev pub same : {A : ℕ} → LowPass A → LowPass A → Bool
-same f t = has_same_memory f.svf t.svf
 
 -- the excitation filter over all frames is its memory's loop
 low_scan : {A : ℕ} (f : LowPass A) (xs ys : List Float) → scan (fill filter_of) f xs ys ≡ low_pass f xs ys
@@ -65,16 +57,14 @@ module _ {A : ℕ} (f : LowPass A) (temp temp2 aux : List Float) where
   pub record Passing (n : ℕ) (i : ℕ) (ts us : List Float) (o : Passed (LowPass A)) : Type 0 where
     pub lead : Lead filter_of nan f temp temp2 i ts (o.filter, o.out)
     pub mixed : Scan add_step tt filled aux i tt us
-    pub stays : Stays filter_of same o (get_or temp i nan)
     pub block : Block temp temp2 aux filled n
 
   pub passing_begin : {o : Passed (LowPass A)} → length temp2 ≡ length temp → length aux ≡ length temp → length temp * 4 < 2 ^ 63
-      → o ≡ ahead_of filter_of same f temp 0 → Stays filter_of same o (get_or temp 0 nan) → Passing (length temp) 0 temp2 aux o
-  passing_begin h2 ha b e t =
+      → o ≡ ahead_of filter_of f temp 0 → Passing (length temp) 0 temp2 aux o
+  passing_begin h2 ha b e =
       record {
-        lead = lead_begin (ahead_step filter_of same f temp 0 e) (ahead_end filter_of same f temp 0 e);
+        lead = lead_begin (ahead_step filter_of f temp 0 e) (ahead_end filter_of f temp 0 e);
         mixed = frames_begin;
-        stays = t;
         block = record {
           all = refl;
           temp2_size = h2;
@@ -89,15 +79,14 @@ module _ {A : ℕ} (f : LowPass A) (temp temp2 aux : List Float) where
   passing_puts v l = let z = v.block in lead_puts nan v.lead (omega (arith, z, l))
 
   pub passing_turn : {n i : ℕ} {ts us : List Float} {o p : Passed (LowPass A)} → Passing n i ts us o → i < n
-      → p ≡ ahead_of filter_of same o.filter temp (i + 1) → Stays filter_of same p (get_or temp (i + 1) nan)
+      → p ≡ ahead_of filter_of o.filter temp (i + 1)
       → Passing n (i + 1) (set ts i o.out) (set us i (get_or us i nan ⊕ o.out)) p
-  passing_turn {i = i} {us = us} {o = o} v l e t =
+  passing_turn {i = i} {us = us} {o = o} v l e =
       let z = v.block in
       let within : i < min (length temp) (length temp2) = omega (arith, z, l) in
       record {
-        lead = lead_turn nan v.lead within (ahead_step filter_of same o.filter temp (i + 1) e) (ahead_end filter_of same o.filter temp (i + 1) e);
+        lead = lead_turn nan v.lead within (ahead_step filter_of o.filter temp (i + 1) e) (ahead_end filter_of o.filter temp (i + 1) e);
         mixed = scan_turn nan nan v.mixed (omega (arith, z, l)) (ap (λ (x : Float). (tt, get_or us i nan ⊕ x)) (passing_puts v l));
-        stays = t;
         block = z;
       }
 
@@ -118,20 +107,20 @@ module _ {A : ℕ} (f : LowPass A) (m : Modes) (states : States) (temp temp2 out
     pub out_size : length out ≡ n
 
   pub underway_begin : {o : Passed (LowPass A)} → Alike temp temp2 out aux → length temp * 4 < 2 ^ 63
-      → o ≡ ahead_of filter_of same f temp 0 → Stays filter_of same o (get_or temp 0 nan) → Underway (length temp) 0 temp2 out aux states o
-  underway_begin a b e t =
-      record { passing = passing_begin f temp temp2 aux a.temp2_is a.aux_is b e t; sung = frames_begin; out_size = a.out_is }
+      → o ≡ ahead_of filter_of f temp 0 → Underway (length temp) 0 temp2 out aux states o
+  underway_begin a b e =
+      record { passing = passing_begin f temp temp2 aux a.temp2_is a.aux_is b e; sung = frames_begin; out_size = a.out_is }
 
   pub underway_turn : {n i : ℕ} {ts os us : List Float} {now now' : States} {o p : Passed (LowPass A)} {y : Float}
       → Underway n i ts os us now o → i < n
-      → p ≡ ahead_of filter_of same o.filter temp (i + 1) → Stays filter_of same p (get_or temp (i + 1) nan)
+      → p ≡ ahead_of filter_of o.filter temp (i + 1)
       → ◌≡◌ {A = States × Float} (now', y) (frame_of m now o.out (get_or os i nan))
       → Underway n (i + 1) (set ts i o.out) (set os i y) (set us i (get_or us i nan ⊕ o.out)) now' p
-  underway_turn {i = i} {os = os} {now = now} {o = o} v l e t h =
+  underway_turn {i = i} {os = os} {now = now} {o = o} v l e h =
       let z = v.passing.block in
       let x = passing_puts f temp temp2 aux v.passing l in
       record {
-        passing = passing_turn f temp temp2 aux v.passing l e t;
+        passing = passing_turn f temp temp2 aux v.passing l e;
         sung = scan_turn nan nan v.sung (omega (arith, z, v.out_size, l)) (h ∙ ap (λ (x : Float). frame_of m now x (get_or os i nan)) x);
         out_size = v.out_size;
       }

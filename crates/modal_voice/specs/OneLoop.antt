@@ -1,8 +1,6 @@
 -- Both halves' loops of a render as one: the excitation filter a frame ahead of the modes. Assumes nothing.
-use Rattle.std.specs.Prelude.{◌≡◌, ℕ, Bool, ◌&&◌, List, Float}
+use Rattle.std.specs.Prelude.{◌≡◌, ℕ, List, Float}
 use Rattle.std.specs.Float.{nan}
-use Rattle.std.proofs.Common.{sym}
-use Rattle.ground.specs.Floats.{same_float}
 use Rattle.ground.specs.Frames.{scan}
 use Rattle.noise.specs.Excitation.{added}
 use Rattle.noise.specs.declared.buffers.Buffers.{Buffers}
@@ -31,16 +29,9 @@ frames_of k s m fs temp temp2 out aux =
     let p = one_pass m fs e.1 out in
     record { filter = e.0; mode_filters = p.0; temp2 = e.1; out = p.1; aux = added e.1 aux }
 
-abbrev pub has_same_memory : ResonatorSvf → ResonatorSvf → Bool
-has_same_memory s t = same_float s.state_1 t.state_1 && same_float s.state_2 t.state_2
-
 -- the excitation filter after a sample, and the sample that it gives
 abbrev pub filter_of : {A : ℕ} → LowPass A → Float → LowPass A × Float
 filter_of f x = let u = low_step f.mode f.svf x nan in (record { mode = f.mode; svf = u.0 }, u.1)
-
--- a filter whose memory stands is the filter that it was
-pub filter_stays : {A : ℕ} (f : LowPass A) (x : Float) → (f.svf.state_1 ≡ (filter_of f x).0.svf.state_1) × (f.svf.state_2 ≡ (filter_of f x).0.svf.state_2) → (filter_of f x).0 ≡ f
-filter_stays f x e = λ i. record { mode = f.mode; svf = record { state_1 = sym e.0 i; state_2 = sym e.1 i } }
 
 -- the excitation filter over all frames, and what it gives
 unfoldable pub low_pass : {A : ℕ} → LowPass A → List Float → List Float → LowPass A × List Float

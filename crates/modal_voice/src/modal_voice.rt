@@ -4,7 +4,7 @@ ghost use Rattle.ground.specs.Draw.{ret, run, Ran};
 ghost use Rattle.noise.specs.Excitation.{Alike, added};
 ghost use Rattle.noise.specs.Buffers.{IsAlike, IsSame};
 ghost use Rattle.modes.specs.OnePass.{FullStates};
-ghost use Rattle.modal_voice.specs.OneLoop.{Framed, frames_of, low_pass, Sung, sung_of, Sings, has_same_memory, filter_of, filter_stays};
+ghost use Rattle.modal_voice.specs.OneLoop.{Framed, frames_of, low_pass, Sung, sung_of, Sings, filter_of};
 ghost use Rattle.modal_voice.specs.ModalVoice.{voice_new, voice_init, cutoff_for, resonance_for, strike_of, clicked, excitation, held_after, excitation_words, excitation_counts, Excited, excite_of, Sounded, sound_of, After, render_of};
 
 use modes::resonator::{Batch, Mode, Modes, Quiet, Resonator, ResonatorSvf, States};
@@ -123,12 +123,6 @@ impl<const AROUND: bool> LowPass<AROUND> {
 impl<const AROUND: bool> Filter for LowPass<AROUND> {
     ghost step = { filter_of };
 
-    ghost same = { λ f t. has_same_memory f.svf t.svf };
-
-    ghost alike = { λ f t. (f.svf.state_1 ≡ t.svf.state_1) × (f.svf.state_2 ≡ t.svf.state_2) };
-
-    ghost stays = { filter_stays };
-
     // As a call it takes the frames of all modes a seventh longer.
     #[inline(always)]
     fn step(self, x: f32) -> (LowPass<AROUND>, f32) {
@@ -139,10 +133,13 @@ impl<const AROUND: bool> Filter for LowPass<AROUND> {
         }
     }
 
-    // By bits: `==` takes 0.0 and -0.0 for one number, and a NaN for none. The fields are a mode's, which the impl for `Svf` has not.
-    fn stands(self, after: LowPass<AROUND>) -> bool {
-        ground::bits::same(self.svf.state_1, after.svf.state_1)
-            && ground::bits::same(self.svf.state_2, after.svf.state_2)
+    fn is(self, other: LowPass<AROUND>) -> bool {
+        ground::bits::same(self.svf.state_1, other.svf.state_1)
+            && ground::bits::same(self.svf.state_2, other.svf.state_2)
+            && ground::bits::same(self.mode.g, other.mode.g)
+            && ground::bits::same(self.mode.r_plus_g, other.mode.r_plus_g)
+            && ground::bits::same(self.mode.h, other.mode.h)
+            && ground::bits::same(self.mode.gain, other.mode.gain)
     }
 }
 

@@ -3,4 +3,4 @@ pub mod Ahead
 pub mod Buffers
 pub mod Dust
 pub mod Excitation
-pub mod SvfAhead
+pub mod Settling

@@ -1,94 +1,61 @@
 // A filter that is a frame ahead of what it feeds, so that neither waits for the other.
-ghost use Rattle.std.specs.Prelude.{◌≡◌, true, Bool, ◌+◌, ◌<◌, length, get_or, Float};
+ghost use Rattle.std.specs.Prelude.{◌≡◌, true, ◌+◌, ◌<◌, length, Float};
 ghost use Rattle.std.specs.Float.{nan};
-ghost use Rattle.utils.specs.Filter.{svf_step, has_same_memory};
-ghost use Rattle.noise.specs.Ahead.{pass_of, Stays, ahead_of};
-ghost use Rattle.noise.specs.SvfAhead.{svf_stays};
+ghost use Rattle.utils.specs.Filter.{svf_step};
+ghost use Rattle.noise.specs.Ahead.{pass_of, ahead_of};
 
 use utils::filter::Svf;
 
-// A filter whose step, where its memory stands, leaves it as it was.
+// A filter of which is said what a step of it is, and whether two of it are the same in every bit.
 pub trait Filter: Copy {
     // The filter after a sample, and the sample that it gives.
     ghost step: { Self → Float → Self × Float };
 
-    // Whether the memory of two filters is the same, and what that says of them.
-    ghost same: { Self → Self → Bool };
-
-    ghost alike: { Self → Self → Type 0 };
-
     fn step(self, x: f32) -> (Self, f32)
         ensures { result ≡ step self x };
 
-    fn stands(self, after: Self) -> bool
-        ensures { (result ≡ same self after) × (result ≡ true → alike self after) };
-
-    // A filter whose memory a sample leaves as it was is the filter that it was.
-    ghost stays: { (f : Self) (x : Float) → alike f (step f x).0 → (step f x).0 ≡ f };
+    // By bits: `==` takes 0.0 and -0.0 for one number, and a NaN for none.
+    fn is(self, other: Self) -> bool
+        ensures { result ≡ true → self ≡ other };
 }
 
 impl Filter for Svf {
     ghost step = { λ s x. svf_step s x nan };
 
-    ghost same = { has_same_memory };
-
-    ghost alike = { λ s t. (s.state_1 ≡ t.state_1) × (s.state_2 ≡ t.state_2) };
-
-    ghost stays = { svf_stays };
-
     fn step(self, x: f32) -> (Svf, f32) {
         self.process(x)
     }
 
-    // By bits: `==` takes 0.0 and -0.0 for one number, and a NaN for none.
-    fn stands(self, after: Svf) -> bool {
-        ground::bits::same(self.state_1, after.state_1)
-            && ground::bits::same(self.state_2, after.state_2)
+    fn is(self, other: Svf) -> bool {
+        ground::bits::same(self.state_1, other.state_1)
+            && ground::bits::same(self.state_2, other.state_2)
+            && ground::bits::same(self.g, other.g)
+            && ground::bits::same(self.r, other.r)
+            && ground::bits::same(self.h, other.h)
     }
 }
 
-// A filter past a sample, what it gave, and whether its memory is as it was; there is a filter and a sample either way, so `stands` is no Option.
+// A filter past a sample, and what it gave.
 #[derive(Clone, Copy)]
 pub struct Passed<F> {
     pub filter: F,
     pub out: f32,
-    pub stands: bool,
 }
 
 impl<F: Filter> Passed<F> {
     // A sample through a filter. The compiler would leave it a call, which gives the filter through memory at each frame.
     #[inline(always)]
     pub fn pass(f: F, x: f32) -> Passed<F>
-        ensures { (result ≡ pass_of F.step F.same f x) × Stays F.step F.same result x }
+        ensures { result ≡ pass_of F.step f x }
     {
         let (filter, out) = f.step(x);
-        Passed {
-            filter,
-            out,
-            stands: f.stands(filter),
-        }
-    }
-
-    // `pass` of y behind that of x: where neither the memory nor the sample has changed, the same again.
-    pub fn pass_on(self, x: f32, y: f32) -> Passed<F>
-        requires { Stays F.step F.same self x }
-        ensures { (result ≡ pass_of F.step F.same self.filter y) × Stays F.step F.same result y }
-    {
-        if self.stands && ground::bits::same(x, y) {
-            // by its fields: as a whole its padding goes through memory too, which takes the string a tenth
-            Passed {
-                stands: true,
-                ..self
-            }
-        } else {
-            Passed::pass(self.filter, y)
-        }
+        Passed { filter, out }
     }
 
     // A filter past the first frame.
     #[tactic(auto, unfolding(crate::specs::Ahead::ahead_of))]
     pub fn first(f: F, xs: &[f32]) -> Passed<F>
-        ensures { (result ≡ ahead_of F.step F.same f xs.now 0) × Stays F.step F.same result (get_or xs.now 0 nan) }
+        ensures { result ≡ ahead_of F.step f xs.now 0 }
     {
         if 0 < xs.len() {
             Passed::pass(f, xs[0])
@@ -96,7 +63,6 @@ impl<F: Filter> Passed<F> {
             Passed {
                 filter: f,
                 out: 0.0,
-                stands: false,
             }
         }
     }
@@ -104,17 +70,13 @@ impl<F: Filter> Passed<F> {
     // The filter past the frame i + 1, where this is the filter past the frame i.
     #[tactic(auto, unfolding(crate::specs::Ahead::ahead_of))]
     pub fn on(self, xs: &[f32], i: usize) -> Passed<F>
-        requires { Stays F.step F.same self (get_or xs.now i nan) × (i < length xs.now) }
-        ensures { (result ≡ ahead_of F.step F.same self.filter xs.now (i + 1)) × Stays F.step F.same result (get_or xs.now (i + 1) nan) }
+        requires { i < length xs.now }
+        ensures { result ≡ ahead_of F.step self.filter xs.now (i + 1) }
     {
         if i + 1 < xs.len() {
-            self.pass_on(xs[i], xs[i + 1])
+            Passed::pass(self.filter, xs[i + 1])
         } else {
-            Passed {
-                filter: self.filter,
-                out: 0.0,
-                stands: false,
-            }
+            Passed { out: 0.0, ..self }
         }
     }
 }

@@ -8,7 +8,8 @@ use lib.Ieee.{Float}
 use Rattle.ground.specs.Draw.{run, counted}
 use Rattle.utils.specs.Filter.{svf_buffer}
 use Rattle.utils.specs.declared.filter.Svf.{Svf}
-use Rattle.ground.proofs.Draw.{run_then, counted_then}
+use Rattle.ground.proofs.Draw.{run_then, counted_then, always_run, always_bind}
+use Rattle.ground.proofs.Frames.{Any, always_any}
 use Rattle.waveguide.specs.declared.string.StringNonLinearity.{StringNonLinearity}
 use Rattle.waveguide.specs.declared.string.String.{String}
 use Rattle.noise.specs.declared.excitation.Knobs.{Knobs}
@@ -16,7 +17,7 @@ use Rattle.noise.specs.declared.excitation.Counts.{Counts}
 use Rattle.noise.specs.Excitation.{raised, added}
 use Rattle.string_voice.specs.declared.string_voice.StringVoice.{StringVoice}
 use Rattle.waveguide.specs.String.{non_linearity, strung, Good}
-use Rattle.string_voice.specs.StringVoice.{struck, excitation, excitation_words, excitation_counts, excite_of, both_counts, amount, sound_of, render_of}
+use Rattle.string_voice.specs.StringVoice.{struck, excitation, excitation_words, excitation_counts, Excited, excite_of, both_counts, amount, sound_of, render_of}
 use Rattle.string_voice.proofs.Excitations.{excitation_draws}
 
 module _ (k : Knobs) (v s : StringVoice) (temp temp2 aux : List Float) (word : ℕ) where
@@ -84,3 +85,10 @@ struck_string k v = one_of (k.trigger || k.sustain) _ v v.string refl refl
 
 pub struck_good : (k : Knobs) (v s : StringVoice) (lines : List Float) → s ≡ struck k v → Good (v.string, lines) → Good (s.string, lines)
 struck_good k v s lines e g = rw (e, struck_string k v) g
+
+pub excited_string : (k : Knobs) (v : StringVoice) (temp temp2 aux : List Float) (word : ℕ) {e : Excited} {w : ℕ}
+    → run (excite_of k v temp temp2 aux) word ≡ record { value = e; word = w } → e.voice.string ≡ v.string
+unfolding excite_of
+excited_string k v temp temp2 aux word e =
+    let m = counted (excitation k.sustain k (struck k v).remaining_noise_samples temp) in
+    always_run (λ e. e.voice.string ≡ v.string) (excite_of k v temp temp2 aux) word (always_bind Any _ m _ (always_any m) (λ t h. struck_string k v)) e

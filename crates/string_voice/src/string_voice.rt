@@ -5,11 +5,12 @@ ghost use Rattle.waveguide.specs.String.{Good};
 ghost use Rattle.noise.specs.Excitation.{Alike};
 ghost use Rattle.noise.specs.Buffers.{IsAlike, IsSame};
 ghost use Rattle.string_voice.specs.StringVoice.{voice_new, voice_init, voice_reset, cutoff_for, struck, burst, excitation, excitation_words, excitation_counts, Excited, excite_of, amount, Sounded, sound_of, After, render_of};
-ghost use Rattle.string_voice.specs.OneLoop.{Framed, frames_of};
+ghost use Rattle.string_voice.specs.OneLoop.{Framed, frames_of, Renders};
 
 use noise::ahead::Passed;
 use noise::buffers::Buffers;
 use noise::excitation::{Counts, Knobs, Rendered};
+use noise::settling::settle;
 use utils::filter::{FrequencyApproximation, Svf};
 use waveguide::string::{Block, Played, String, Underway};
 
@@ -223,7 +224,8 @@ impl StringVoice {
         let left = noise_left(k.sustain, before, temp.len());
         let counts = counts_of(k.sustain, before, temp.len());
         let drawn = fill_excitation(k, before, temp, word);
-        let excitation_filter = struck.excitation_filter.process_buffer(temp, temp_2);
+        let fed = counts.burst + counts.dust;
+        let excitation_filter = settle(struck.excitation_filter, temp, fed, temp_2);
         noise::excitation::add_into(temp_2, aux);
         let voice = StringVoice {
             excitation_filter,
@@ -276,7 +278,7 @@ impl StringVoice {
     }
 
     // Both halves, their loops as one.
-    pub fn render(
+    fn render_in_one(
         self,
         k: Knobs,
         lines: &mut [f32],
@@ -284,19 +286,7 @@ impl StringVoice {
         word: u32,
     ) -> Rendered<StringVoice>
         requires { Good (self.string, lines.old) × (length b.old.out.now ≤ 2 ^ 24) × IsAlike b.old }
-        ensures all { run (render_of k self lines.old b.old.temp.now b.old.temp_2.now b.old.out.now b.old.aux.now) word ≡ record {
-          value = record {
-            voice = result.voice;
-            lines = lines.new;
-            temp = b.new.temp.now;
-            temp2 = b.new.temp_2.now;
-            out = b.new.out.now;
-            aux = b.new.aux.now;
-            counts = result.counts;
-          };
-          word = result.word;
-        } }
-        ensures same { IsSame b.new b.old }
+        ensures { Renders k self lines.old b.old word result lines.new b.new }
     {
         let struck = self.strike(k);
         let left = struck.remaining_noise_samples;
@@ -330,6 +320,61 @@ impl StringVoice {
             voice,
             word,
             counts,
+        }
+    }
+
+    // Both halves, one after the other.
+    fn render_apart(
+        self,
+        k: Knobs,
+        lines: &mut [f32],
+        b: &mut Buffers,
+        word: u32,
+    ) -> Rendered<StringVoice>
+        requires { Good (self.string, lines.old) × (length b.old.out.now ≤ 2 ^ 24) × IsAlike b.old }
+        ensures { Renders k self lines.old b.old word result lines.new b.new }
+    {
+        let temp = &mut *b.temp;
+        let temp_2 = &mut *b.temp_2;
+        let out = &mut *b.out;
+        let aux = &mut *b.aux;
+        let e = self.excite(k, temp, temp_2, aux, word);
+        let s = e.voice.sound(k, lines, temp_2, out, e.word);
+        let counts = Counts {
+            dispersion: s.counts.dispersion,
+            ..e.counts
+        };
+        Rendered { counts, ..s }
+    }
+
+    // Both halves: their loops as one while there is noise, else one after the other.
+    pub fn render(
+        self,
+        k: Knobs,
+        lines: &mut [f32],
+        b: &mut Buffers,
+        word: u32,
+    ) -> Rendered<StringVoice>
+        requires { Good (self.string, lines.old) × (length b.old.out.now ≤ 2 ^ 24) × IsAlike b.old }
+        ensures all { run (render_of k self lines.old b.old.temp.now b.old.temp_2.now b.old.out.now b.old.aux.now) word ≡ record {
+          value = record {
+            voice = result.voice;
+            lines = lines.new;
+            temp = b.new.temp.now;
+            temp2 = b.new.temp_2.now;
+            out = b.new.out.now;
+            aux = b.new.aux.now;
+            counts = result.counts;
+          };
+          word = result.word;
+        } }
+        ensures same { IsSame b.new b.old }
+    {
+        let left = self.strike(k).remaining_noise_samples;
+        if k.sustain | (left > b.temp.len() / 2) {
+            self.render_in_one(k, lines, b, word)
+        } else {
+            self.render_apart(k, lines, b, word)
         }
     }
 }

@@ -1,5 +1,5 @@
 -- filter.rs: the approximate tangents, the DC blocker, and the state variable filter at its low pass. Assumes nothing.
-use Rattle.std.specs.Prelude.{Bool, ◌&&◌, List, Float}
+use Rattle.std.specs.Prelude.{List, Float}
 use Rattle.std.specs.Float.{binary32}
 use Rattle.std.specs.Float.Ieee.{of_bits}
 use Rattle.utils.specs.declared.filter.FrequencyApproximation.{FrequencyApproximation}
@@ -8,7 +8,6 @@ use Rattle.utils.specs.declared.filter.DcBlocker.{DcBlocker}
 use Rattle.utils.specs.declared.filter.Svf.{Svf}
 use Rattle.ground.specs.F32.{◌⊕◌, ◌⊖◌, ◌⊗◌, ◌⊘◌, c0, c0·01, c1, c100}
 use Rattle.ground.specs.Frames.{scan}
-use Rattle.ground.specs.Floats.{same_float}
 
 -- ---- constants, composed as in the Rust
 unfoldable pub m_pi : Float
@@ -89,10 +88,6 @@ svf_of s x =
     let bp = s.g ⊗ hp ⊕ s.state_1 in
     let lp = s.g ⊗ bp ⊕ s.state_2 in
     (record { g = s.g; r = s.r; h = s.h; state_1 = s.g ⊗ hp ⊕ bp; state_2 = s.g ⊗ bp ⊕ lp }, lp)
-
--- whether the memory of two filters is the same
-abbrev pub has_same_memory : Svf → Svf → Bool
-has_same_memory s t = same_float s.state_1 t.state_1 && same_float s.state_2 t.state_2
 
 -- process_buffer, at FilterMode::LowPass: the frames of the zipped buffers
 abbrev pub svf_step : Svf → Float → Float → Svf × Float

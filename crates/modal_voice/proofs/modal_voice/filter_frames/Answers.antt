@@ -7,13 +7,13 @@ use Rattle.modal_voice.proofs.modal_voice.filter_frames.Goals as goal
 pub loop-i-init : goal.loop-i-init
 loop-i-init c =
     let a = c.args in
-    passing_begin a.filter a.temp.now a.temp_2.now a.aux.now c.requires.0 c.requires.1 (search rules) c.first-passed.ensures.0 c.first-passed.ensures.1
+    passing_begin a.filter a.temp.now a.temp_2.now a.aux.now c.requires.0 c.requires.1 (search rules) c.first-passed.ensures
 
 pub loop-i-preserved : goal.loop-i-preserved
 loop-i-preserved c =
     let a = c.args in
     let q = c.on-passed.ensures in
-    passing_turn a.filter a.temp.now a.temp_2.now a.aux.now c.loop-i.invariant (omega arith) q.0 q.1
+    passing_turn a.filter a.temp.now a.temp_2.now a.aux.now c.loop-i.invariant (omega arith) q
 
 pub returns : goal.returns
 returns c =

@@ -9,14 +9,14 @@ pub loop-i-init : goal.loop-i-init
 loop-i-init g c =
     let a = c.args in
     let b = a.b.now in
-    underway_begin a.filter a.m.now a.states.now b.temp.now b.temp_2.now b.out.now b.aux.now c.requires (search rules) c.first-ahead.ensures.0 c.first-ahead.ensures.1
+    underway_begin a.filter a.m.now a.states.now b.temp.now b.temp_2.now b.out.now b.aux.now c.requires (search rules) c.first-ahead.ensures
 
 pub loop-i-preserved : goal.loop-i-preserved
 loop-i-preserved g c =
     let a = c.args in
     let b = a.b.now in
     let q = c.on-ahead.ensures in
-    underway_turn a.filter a.m.now a.states.now b.temp.now b.temp_2.now b.out.now b.aux.now c.loop-i.invariant (omega arith) q.0 q.1 c.frame_at.ensures
+    underway_turn a.filter a.m.now a.states.now b.temp.now b.temp_2.now b.out.now b.aux.now c.loop-i.invariant (omega arith) q c.frame_at.ensures
 
 pub returns : goal.returns
 returns g c =

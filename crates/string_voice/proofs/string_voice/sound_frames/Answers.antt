@@ -11,7 +11,7 @@ use Rattle.ground.specs.Frames.{frames}
 use Rattle.ground.proofs.Draw.{run_then}
 use Rattle.ground.proofs.Frames.{frames_begin, frames_turn, frames_good, length_scan, scan_turn, scan_end}
 use Rattle.ground.proofs.Lead.{lead_begin, lead_turn, lead_puts, lead_end}
-use Rattle.utils.specs.Filter.{svf_step, has_same_memory, svf_buffer}
+use Rattle.utils.specs.Filter.{svf_step, svf_buffer}
 use Rattle.noise.proofs.OneAhead.{ahead_step, ahead_end}
 use Rattle.waveguide.specs.declared.string.String.{String}
 use Rattle.waveguide.specs.String.{moved, frame_of, Good}
@@ -25,12 +25,11 @@ loop-i-init c =
     let q = c.requires.2 in
     let e = c.begin-u.ensures in
     let h = c.first-ahead.ensures in (
-      lead_begin (ahead_step filter_of has_same_memory a.f a.b.now.temp.now 0 h.0) (ahead_end filter_of has_same_memory a.f a.b.now.temp.now 0 h.0),
+      lead_begin (ahead_step filter_of a.f a.b.now.temp.now 0 h) (ahead_end filter_of a.f a.b.now.temp.now 0 h),
       frames_begin,
       frames_begin,
       begun_ahead a.block.params a.s a.word _ e,
       begun_drawn a.block.params a.s a.word _ e,
-      h.1,
       record {
         all = refl;
         temp2_size = q.temp2_is;
@@ -48,7 +47,7 @@ advance-u-requires c =
     let l = c.loop-i in (
       frames_good Good (frame_good a.block.shape a.block.params) (begun_good a.block.params a.s a.word _ b.ensures a.lines.now c.requires.0) l.invariant.2,
       l.invariant.3,
-      omega (arith, l.invariant.4, words_to_few a.block.shape a.block.params b.result.string.src_phase l.i, l.invariant.2.within, l.invariant.6.few, l.invariant.6.out_size),
+      omega (arith, l.invariant.4, words_to_few a.block.shape a.block.params b.result.string.src_phase l.i, l.invariant.2.within, l.invariant.5.few, l.invariant.5.out_size),
     )
 
 pub loop-i-preserved : goal.loop-i-preserved
@@ -57,7 +56,7 @@ loop-i-preserved c =
     let b = c.begin-u in
     let l = c.loop-i in
     let v = l.invariant in
-    let z = v.6 in
+    let z = v.5 in
     let xs = (svf_buffer a.f a.b.now.temp.now a.b.now.temp_2.now).1 in
     let lt : l.i < length a.b.now.temp.now = omega (arith, z.all, c.loop-i-test) in
     let within : l.i < min (length a.b.now.temp.now) (length a.b.now.temp_2.now) = omega (arith, z, lt) in
@@ -65,12 +64,11 @@ loop-i-preserved c =
     let q = c.on-ahead.ensures in
     let m = c.advance-u.ensures in
     let good = begun_good a.block.params a.s a.word _ b.ensures a.lines.now c.requires.0 in (
-      lead_turn nan v.0 within (ahead_step filter_of has_same_memory l.ahead.filter a.b.now.temp.now (l.i + 1) q.0) (ahead_end filter_of has_same_memory l.ahead.filter a.b.now.temp.now (l.i + 1) q.0),
+      lead_turn nan v.0 within (ahead_step filter_of l.ahead.filter a.b.now.temp.now (l.i + 1) q) (ahead_end filter_of l.ahead.filter a.b.now.temp.now (l.i + 1) q),
       scan_turn nan nan v.1 (omega (arith, z, lt)) (ap (λ (x : Float). (tt, get_or l.aux l.i nan ⊕ x)) x),
       frames_turn nan nan v.2 (omega (arith, z, lt)) (rw (← x, c.mix.ensures) (run_then (moved a.block.shape a.block.params _ (l.u.string, l.lines)) _ l.u.word m.0)),
       m.1,
       words_turn a.block.shape a.block.params (b.result.string, a.lines.now) xs a.b.now.out.now b.result.word good l.i l.u.drawn _ v.2 (omega (arith, z, lt)) v.4 m.2,
-      q.1,
       z,
     )
 
@@ -80,7 +78,7 @@ returns-clause-all c =
     let b = c.begin-u in
     let l = c.loop-i in
     let v = l.invariant in
-    let z = v.6 in
+    let z = v.5 in
     let xs = (svf_buffer a.f a.b.now.temp.now a.b.now.temp_2.now).1 in
     let good = begun_good a.block.params a.s a.word _ b.ensures a.lines.now c.requires.0 in
     let past : length a.b.now.temp.now ≤ l.i = omega (arith, z.all, c.loop-i-test) in

@@ -1,11 +1,10 @@
 -- `string_voice::sound_frames` meets its contract: the loops that it joins, each by the law of loops over frames.
 use mathlib.Core.Path.{◌≡◌}
-use lib.ListN.{length, get_or}
+use lib.ListN.{length}
 use lib.Ieee.{nan}
 use Rattle.ground.proofs.Frames.{Scan, Frames}
 use Rattle.ground.proofs.Lead.{Lead}
-use Rattle.utils.specs.Filter.{has_same_memory, svf_buffer}
-use Rattle.noise.specs.Ahead.{Stays}
+use Rattle.utils.specs.Filter.{svf_buffer}
 use Rattle.noise.specs.Excitation.{add_step}
 use Rattle.waveguide.specs.String.{frame_of, Ahead}
 use Rattle.waveguide.proofs.Steps.{words_to}
@@ -21,5 +20,4 @@ invariant-loop-i l =
     × Frames (frame_of b.shape b.params) (l.initial.u.string, l.initial.lines) xs l.initial.out l.initial.u.word l.i (l.u.string, l.lines) l.out l.u.word
     × Ahead b.params l.u
     × (l.u.drawn ≡ words_to b.shape b.params l.initial.u.string.src_phase l.i)
-    × Stays filter_of has_same_memory l.ahead (get_or l.temp l.i nan)
     × Block l.temp l.initial.temp_2 l.initial.out l.initial.aux xs (length l.temp)
