@@ -347,7 +347,7 @@ impl StringVoice {
         Rendered { counts, ..s }
     }
 
-    // Both halves: their loops as one while there is noise, else one after the other.
+    // Both halves: their loops as one where the filter is fed in more than half of the frames, else one after the other.
     pub fn render(
         self,
         k: Knobs,
@@ -371,6 +371,7 @@ impl StringVoice {
         ensures same { IsSame b.new b.old }
     {
         let left = self.strike(k).remaining_noise_samples;
+        // dust or noise keeps the filter busy; behind it the filter settles, which a loop by itself can go around
         if k.sustain | (left > b.temp.len() / 2) {
             self.render_in_one(k, lines, b, word)
         } else {
