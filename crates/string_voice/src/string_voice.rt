@@ -188,7 +188,8 @@ impl StringVoice {
         StringVoice { string, ..self }
     }
 
-    // With trigger or sustain the noise begins anew and the filter is set.
+    // With trigger or sustain the noise begins anew and the filter is set. It is in line, so that `render` works out no more of it than the noise.
+    #[inline(always)]
     #[tactic(auto, unfolding(crate::specs::StringVoice::struck))]
     fn strike(self, k: Knobs) -> StringVoice
         ensures { result ≡ struck k self }

@@ -80,7 +80,8 @@ pub fn read_with_delay_frac(line: &[f32], write_ptr: usize, delay: f32) -> f32
     crate::crossfade(read(line, t), read(line, t + 1), delayed.fractional)
 }
 
-// `read_hermite`, where the delay's whole part was guessed.
+// `read_hermite`, where the delay's whole part was guessed. As a call it takes a sustained string a tenth longer.
+#[inline(always)]
 pub fn read_hermite_near(line: &[f32], write_ptr: usize, delay: f32, guess: usize) -> f32
     requires { write_ptr < length line.now }
     ensures { result ≡ read_hermite line.now write_ptr delay }

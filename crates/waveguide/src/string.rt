@@ -291,6 +291,7 @@ impl String {
     }
 
     // The string line read by the cubic.
+    #[inline(always)]
     #[tactic(auto, unfolding(crate::specs::String::plain, ground::specs::Part::part))]
     fn read_plain(self, lines: &[f32], delay: f32, guess: usize) -> Heard
         requires { Good (self, lines.now) }
@@ -303,6 +304,7 @@ impl String {
     }
 
     // The string line read in a straight line, and passed through the stretch line.
+    #[inline(always)]
     #[tactic(auto, unfolding(crate::specs::String::allpassed, ground::specs::Part::part, ground::specs::Part::put))]
     fn read_allpass(self, lines: &mut [f32], main: f32, ap: f32, gain: f32) -> Heard
         requires { Good (self, lines.old) }
@@ -391,6 +393,7 @@ impl Block {
     }
 
     // The delay and the dispersion noise of a step. That noise was worked out a step ago, so that the line's reading need not wait for it.
+    #[inline(always)]
     #[tactic(auto, unfolding(crate::specs::String::bent, crate::specs::String::guess_of, crate::specs::String::noise_after))]
     fn bend(self, delay: f32, noise: f32, next_noise: f32, bridge: f32, word: u32) -> Bent
         requires { next_noise ≡ noise_after self.params noise word }
@@ -463,7 +466,7 @@ impl Block {
         }
     }
 
-    // A step of the string. As calls, it, `hear` and `advance` hand the string on through memory in both loops, and a sustained block takes 1.6 to 1.8 of its time.
+    // A step of the string. As calls, it and what it calls hand the string on through memory in both loops, and a sustained block takes a tenth longer.
     #[inline(always)]
     fn step(self, lines: &mut [f32], v: Underway, in_sample: f32) -> Underway
         requires { Good (v.string, lines.old) × Ahead self.params v × (v.drawn < 2 ^ 63) }
