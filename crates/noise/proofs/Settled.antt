@@ -5,11 +5,27 @@ use native.Mathlib.Nat.{div-add-mod, zero-mod}
 use native.Mathlib.Decide.{dec_lt}
 use Rattle.std.specs.Prelude.{Float}
 use Rattle.std.specs.Float.{nan}
+use Rattle.ground.specs.F32.{c0}
 use Rattle.ground.specs.Frames.{scan, tab, after}
 use Rattle.ground.proofs.Frames.{after_turn}
 use Rattle.ground.proofs.Tab.{Stored, stored_begin, stored_turn}
 use Rattle.noise.specs.declared.settling.Settled.{Settled}
 use Rattle.noise.specs.Settling.{SilentFrom, filtered, before, given, quiet, Settles}
+
+-- from m on what was looked at, i frames, is silent
+pub record SilentSoFar (xs : List Float) (m i : ℕ) : Type 0 where
+  pub silent : (k : ℕ) → m ≤ k → k < i → get_or xs k nan ≡ c0
+
+module _ (xs : List Float) where
+  pub silent_anew : (i : ℕ) → SilentSoFar xs i i
+  silent_anew i = record { silent = λ k l h. absurd (omega arith) }
+
+  pub silent_turn : {m i : ℕ} → SilentSoFar xs m i → get_or xs i nan ≡ c0 → SilentSoFar xs m (i + 1)
+  silent_turn {m} {i} v e = record { silent = λ k l h. go k l h (dec_lt k i) }
+    where
+      go : (k : ℕ) → m ≤ k → k < i + 1 → Dec (k < i) → get_or xs k nan ≡ c0
+      go k l h (yes p) = v.silent k l p
+      go k l h (no p) = let q : k ≡ i = omega (arith, h, p) in ap (λ (k : ℕ). get_or xs k nan) q ∙ e
 
 -- what was stored at k
 got : {X : Type 0} (g : ℕ → X) (i k : ℕ) (xs : List X) (d : X) → k < i → get_or (tab i g ++ xs) k d ≡ g k

@@ -13,6 +13,19 @@ pub struct Settled<F> {
     pub period: usize,
 }
 
+// From which frame on a block is silent.
+pub fn silent_from(xs: &[f32]) -> usize
+    ensures { SilentFrom result xs.now }
+{
+    let mut m = 0;
+    for i in 0..xs.len() {
+        if !ground::bits::same(xs[i], 0.0) {
+            m = i + 1;
+        }
+    }
+    m
+}
+
 // The filter from frame to frame, until from the frame m on it is what it was.
 fn until_settled<F: Filter>(f: F, xs: &[f32], m: usize, ys: &mut [f32]) -> Settled<F>
     ensures { Settles F.step f xs.now m ys.old result ys.new }
