@@ -4,7 +4,6 @@ pub mod Frames
 pub mod Lead
 pub mod Tab
 pub mod Exchange
-pub mod Halves
 pub mod Part
 pub mod Each
 pub mod Bools

@@ -6,17 +6,22 @@ use Prim.Native.Nat.{ℕ}
 use native.Mathlib.Omega.{arith}
 use lib.ListN.{length, set}
 use lib.Ieee.{Float}
-use Rattle.ground.specs.F32.{c1}
 use Rattle.ground.specs.Draw.{Draw, ret, run, counted}
 use Rattle.ground.proofs.Draw.{run_then, counted_then}
 use Rattle.noise.specs.declared.excitation.Knobs.{Knobs}
 use Rattle.noise.specs.declared.excitation.Counts.{Counts}
 use Rattle.noise.specs.Excitation.{raised, silence, added}
 use Rattle.modes.specs.declared.resonator.ResonatorSvf.{ResonatorSvf}
+use Rattle.modes.specs.declared.resonator.Batch.{Batch}
+use Rattle.modes.specs.declared.resonator.Modes.{Modes}
 use Rattle.modes.specs.declared.resonator.Resonator.{Resonator}
+use Rattle.modes.specs.OnePass.{modes_for, one_pass}
+use Rattle.modes.proofs.OnePass.{processed}
 use Rattle.modal_voice.specs.declared.modal_voice.ModalVoice.{ModalVoice}
-use Rattle.modes.specs.Resonator.{mode_of, low_block, process_of}
-use Rattle.modal_voice.specs.ModalVoice.{cutoff_for, resonance_for, strike_of, clicked, excitation, held_after, excitation_words, excitation_counts, excite_of, Sounded, sound_of, render_of}
+use Rattle.modal_voice.specs.declared.modal_voice.LowPass.{LowPass}
+use Rattle.modal_voice.specs.OneLoop.{low_pass_for}
+use Rattle.modes.specs.Resonator.{low_block, process_of}
+use Rattle.modal_voice.specs.ModalVoice.{cutoff_for, strike_of, clicked, excitation, held_after, excitation_words, excitation_counts, excite_of, Sounded, sound_of, render_of}
 use Rattle.modal_voice.proofs.Excitations.{excitation_draws}
 
 -- ---- the click
@@ -40,10 +45,10 @@ module _ (k : Knobs) (held : Bool) (cutoff : Float) (temp : List Float) {quiet :
 
 -- ---- the halves
 module _ (k : Knobs) (v : ModalVoice) (temp temp2 aux : List Float) (word : ℕ) where
-  pub excited : {cutoff q : Float} {held : Bool} {w : ℕ} {filter : ResonatorSvf} {temp' temp2' aux' : List Float} {counts : Counts}
-      → cutoff ≡ cutoff_for k → q ≡ resonance_for k → held ≡ held_after k v.held (length temp)
+  pub excited : {cutoff : Float} {f : LowPass} {held : Bool} {w : ℕ} {filter : ResonatorSvf} {temp' temp2' aux' : List Float} {counts : Counts}
+      → cutoff ≡ cutoff_for k → f ≡ low_pass_for k cutoff v → held ≡ held_after k v.held (length temp)
       → run (excitation k.sustain k v.held cutoff temp) word ≡ record { value = temp'; word = w }
-      → ◌≡◌ {A = ResonatorSvf × List Float} (filter, temp2') (low_block (mode_of cutoff q c1) v.excitation_filter temp' temp2)
+      → ◌≡◌ {A = ResonatorSvf × List Float} (filter, temp2') (low_block f.mode f.svf temp' temp2)
       → aux' ≡ added temp2' aux
       → counts ≡ excitation_counts (excitation_words k.sustain (length temp))
       → run (excite_of k v temp temp2 aux) word ≡ record {
@@ -57,11 +62,12 @@ module _ (k : Knobs) (v : ModalVoice) (temp temp2 aux : List Float) (word : ℕ)
         word = w;
       }
   unfolding excite_of
-  excited {cutoff} ec eq eh et ef ea en =
+  excited {cutoff} {temp' = temp'} ec ef eh et el ea en =
       let m = excitation k.sustain k v.held cutoff temp in
       let n = excitation_words k.sustain (length temp) in
       let e = counted_then n (λ t. length t ≡ length temp) m word (excitation_draws k.sustain k v.held cutoff (length temp) temp refl) et in
-      rw (← ec) (run_then (counted m) _ word e ∙ rw (en, ea, ap (λ q. q.0) ef, ap (λ q. q.1) ef, eh, eq))
+      let q = el ∙ ap (λ (f : LowPass). low_block f.mode f.svf temp' temp2) ef in
+      rw (← ec) (run_then (counted m) _ word e ∙ rw (en, ea, ap (λ q. q.0) q, ap (λ q. q.1) q, eh))
 
 module _ (k : Knobs) (v : ModalVoice) (temp2 out : List Float) where
   pub sounded : {b d : Float} {r : Resonator} {out' : List Float}
@@ -84,3 +90,34 @@ module _ (k : Knobs) (v : ModalVoice) (temp temp2 out aux : List Float) (word : 
   unfolding render_of
   rendered {e} {temp2' = temp2'} {w = w} ee es =
       run_then (excite_of k v temp temp2 aux) _ word ee ∙ run_then (sound_of k e temp2' out) _ w (ap (λ (m : Draw Sounded). run m w) es)
+
+  -- the two halves, where their loops were one
+  pub together : {cutoff b d : Float} {f : LowPass} {held : Bool} {w : ℕ} {modes : Modes} {filter : ResonatorSvf} {gs : List Batch} {temp' temp2' aux' out' : List Float} {counts : Counts}
+      → length v.resonator.mode_filters ≡ 6
+      → cutoff ≡ cutoff_for k → f ≡ low_pass_for k cutoff v → held ≡ held_after k v.held (length temp)
+      → run (excitation k.sustain k v.held cutoff temp) word ≡ record { value = temp'; word = w }
+      → b ≡ raised k.accent k.brightness → d ≡ raised k.accent k.damping
+      → modes ≡ modes_for v.resonator.mode_amplitude k.f0 k.structure b d
+      → ◌≡◌ {A = ResonatorSvf × List Float} (filter, temp2') (low_block f.mode f.svf temp' temp2)
+      → aux' ≡ added temp2' aux
+      → ◌≡◌ {A = List Batch × List Float} (gs, out') (one_pass modes v.resonator.mode_filters temp2' out)
+      → counts ≡ excitation_counts (excitation_words k.sustain (length temp))
+      → run (render_of k v temp temp2 out aux) word ≡ record {
+        value = record {
+          voice = record {
+            excitation_filter = filter;
+            resonator = record { mode_amplitude = v.resonator.mode_amplitude; mode_filters = gs };
+            held = held;
+          };
+          temp = temp';
+          temp2 = temp2';
+          out = out';
+          aux = aux';
+          counts = counts;
+        };
+        word = w;
+      }
+  together {b = b} {d = d} {held = held} {filter = filter} {temp' = temp'} {temp2' = temp2'} h ec ef eh et eb ed es el ea ep en =
+      let e : ModalVoice = record { excitation_filter = filter; resonator = v.resonator; held = held } in
+      rendered (excited k v temp temp2 aux word ec ef eh et el ea en)
+      (sounded k e temp2' out eb ed (processed v.resonator k.f0 k.structure b d temp2' out h es ep))

@@ -5,4 +5,3 @@ pub mod Halves
 pub mod Drawn
 pub mod Held
 pub mod OneLoop
-pub mod Parts

@@ -1,16 +1,18 @@
 // Simple modal synthesis voice with a mallet exciter: click -> LPF -> resonator. With sustain the click is replaced by dust.
-ghost use Rattle.std.specs.Prelude.{◌≡◌, ◌≤◌, length};
+ghost use Rattle.std.specs.Prelude.{◌≡◌};
 ghost use Rattle.ground.specs.Draw.{ret, run, Ran};
-ghost use Rattle.noise.specs.Excitation.{Alike, added};
+ghost use Rattle.noise.specs.Excitation.{added};
 ghost use Rattle.noise.specs.Buffers.{IsAlike, IsSame};
-ghost use Rattle.modes.specs.OnePass.{FullStates};
-ghost use Rattle.modal_voice.specs.OneLoop.{Framed, frames_of, low_pass, Sung, sung_of, Sings, filter_of};
+ghost use Rattle.modes.specs.Resonator.{low_block};
+ghost use Rattle.modes.specs.OnePass.{one_pass};
+ghost use Rattle.modal_voice.specs.OneLoop.{filter_of, low_pass_for, Renders};
 ghost use Rattle.modal_voice.specs.ModalVoice.{voice_new, voice_init, cutoff_for, resonance_for, strike_of, clicked, excitation, held_after, excitation_words, excitation_counts, Excited, excite_of, Sounded, sound_of, After, render_of};
 
-use modes::resonator::{Batch, Mode, Modes, Quiet, Resonator, ResonatorSvf, States};
+use modes::resonator::{Batch, Mode, Modes, Resonator, ResonatorSvf, States};
 use noise::ahead::{Filter, Passed};
 use noise::buffers::Buffers;
 use noise::excitation::{Counts, Knobs, Rendered};
+use noise::settling::{settle, silent_from};
 
 // A voice. A strike on an empty block is held for the next block that has frames; that one waits is all there is to know of it, so `held` is no Option.
 #[derive(Clone, Copy)]
@@ -101,39 +103,25 @@ fn counts_of(sustain: bool, n: usize) -> Counts
     }
 }
 
-// The excitation filter at its mode; around subnormal products at AROUND, where its memory is small.
+// The excitation filter at its mode.
 #[derive(Clone, Copy)]
-pub struct LowPass<const AROUND: bool> {
+pub struct LowPass {
     pub mode: Mode,
     pub svf: ResonatorSvf,
 }
 
-impl<const AROUND: bool> LowPass<AROUND> {
-    // A sample through it; at SMALL its products are taken as if they were subnormal.
-    #[tactic(auto, unfolding(ground::specs::Frames::scan))]
-    fn pass<const SMALL: bool>(self, x: f32) -> (LowPass<AROUND>, f32)
-        ensures { result ≡ filter_of self.entry x }
-    {
-        let t = modes::resonator::tick::<SMALL>(self.mode, self.svf, x);
-        let given = 0.0 + modes::resonator::times::<SMALL>(self.mode.gain, t.lp);
-        (LowPass { svf: t.svf, ..self }, given)
-    }
-}
-
-impl<const AROUND: bool> Filter for LowPass<AROUND> {
+impl Filter for LowPass {
     ghost step = { filter_of };
 
     // As a call it takes the frames of all modes a seventh longer.
+    #[tactic(auto, unfolding(ground::specs::Frames::scan))]
     #[inline(always)]
-    fn step(self, x: f32) -> (LowPass<AROUND>, f32) {
-        if AROUND && modes::resonator::is_small(self.svf) {
-            self.pass::<true>(x)
-        } else {
-            self.pass::<false>(x)
-        }
+    fn step(self, x: f32) -> (LowPass, f32) {
+        let t = modes::resonator::tick::<false>(self.mode, self.svf, x);
+        (LowPass { svf: t.svf, ..self }, 0.0 + self.mode.gain * t.lp)
     }
 
-    fn is(self, other: LowPass<AROUND>) -> bool {
+    fn is(self, other: LowPass) -> bool {
         ground::bits::same(self.svf.state_1, other.svf.state_1)
             && ground::bits::same(self.svf.state_2, other.svf.state_2)
             && ground::bits::same(self.mode.g, other.mode.g)
@@ -143,23 +131,26 @@ impl<const AROUND: bool> Filter for LowPass<AROUND> {
     }
 }
 
-// Each frame through all modes, around subnormal products at AROUND. The excitation filter is a frame ahead of the modes, so that neither waits for the other.
-// The filter goes by value, the modes are read, and the states and the buffers are written: one struct would be lent in one of these ways.
-fn frames_in_one<const AROUND: bool>(
-    filter: LowPass<AROUND>,
+// The frames of both halves in one loop, their products as they come. The excitation filter is a frame ahead of the modes, so that neither waits for the other.
+fn frames_in_one(
+    filter: LowPass,
     m: &Modes,
-    states: &mut States,
+    mode_filters: [Batch; 6],
     b: &mut Buffers,
-) -> LowPass<AROUND>
+) -> (ResonatorSvf, [Batch; 6])
     requires { IsAlike b.old }
-    ensures { Sings filter.entry m.now states.old b.old result states.new b.new }
+    ensures filtered { (result.0, b.new.temp_2.now) ≡ low_block filter.mode filter.svf b.old.temp.now b.old.temp_2.now }
+    ensures mixed { b.new.aux.now ≡ added b.new.temp_2.now b.old.aux.now }
+    ensures passed { (result.1, b.new.out.now) ≡ one_pass m.now mode_filters b.new.temp_2.now b.old.out.now }
+    ensures temp { b.new.temp.now ≡ b.old.temp.now }
+    ensures same { IsSame b.new b.old }
 {
     // Each field by itself: a pattern that takes `b` apart leaves two `&mut` before each buffer, and the proof of a call that is lent a `&` of one does not close.
     let temp = &mut *b.temp;
     let temp_2 = &mut *b.temp_2;
     let out = &mut *b.out;
     let aux = &mut *b.aux;
-    let mut quiet = Quiet::default();
+    let mut states = States::from(mode_filters);
     let mut ahead = Passed::first(filter, temp);
     // by index: the filter reads a frame ahead, and four buffers are written
     for i in 0..temp.len() {
@@ -167,133 +158,9 @@ fn frames_in_one<const AROUND: bool>(
         ahead = ahead.on(temp, i);
         temp_2[i] = x;
         aux[i] += x;
-        if AROUND {
-            quiet = states.quiet_at(quiet, x, i);
-        }
-        out[i] = m.frame_at(quiet, states, x, out[i]);
+        out[i] = m.frame::<false>(&mut states, x, out[i]);
     }
-    ahead.filter
-}
-
-// The excitation filter over all frames, and its mix into aux: `frames_in_one` without modes, which has no states to lend.
-fn filter_frames(
-    filter: LowPass<false>,
-    temp: &[f32],
-    temp_2: &mut [f32],
-    aux: &mut [f32],
-) -> LowPass<false>
-    requires { (length temp_2.old ≡ length temp.now) × (length aux.old ≡ length temp.now) }
-    ensures { ((result, temp_2.new) ≡ low_pass filter temp.now temp_2.old) × (aux.new ≡ added temp_2.new aux.old) }
-{
-    let mut passed = Passed::first(filter, temp);
-    // by index: the filter reads a frame ahead
-    for i in 0..temp.len() {
-        let given = passed.out;
-        passed = passed.on(temp, i);
-        temp_2[i] = given;
-        aux[i] += given;
-    }
-    passed.filter
-}
-
-// At most 64 frames, the filter and each half of the modes by itself.
-fn frames_apart(
-    filter: LowPass<false>,
-    m: &Modes,
-    states: &mut States,
-    b: &mut Buffers,
-) -> LowPass<false>
-    requires { (length b.old.temp.now ≤ 64) × IsAlike b.old × FullStates states.old }
-    ensures { Sings filter m.now states.old b.old result states.new b.new }
-{
-    let temp = &mut *b.temp;
-    let temp_2 = &mut *b.temp_2;
-    let out = &mut *b.out;
-    let aux = &mut *b.aux;
-    let after = filter_frames(filter, temp, temp_2, aux);
-    halves::run_halves(m, states, temp_2, out);
-    after
-}
-
-// At most 64 frames, apart where modes have died away. It takes each buffer by itself: of parts that a caller puts into a `Buffers` a proof knows the lengths alone.
-fn frames_some(
-    filter: LowPass<false>,
-    m: &Modes,
-    states: &mut States,
-    temp: &mut [f32],
-    temp_2: &mut [f32],
-    out: &mut [f32],
-    aux: &mut [f32],
-) -> LowPass<false>
-    requires { (length temp.old ≤ 64) × Alike temp.old temp_2.old out.old aux.old }
-    ensures all { record { filter = result; states = states.new; temp2 = temp_2.new; out = out.new; aux = aux.new } ≡ sung_of filter m.now states.old temp.old temp_2.old out.old aux.old }
-    ensures temp { temp.new ≡ temp.old }
-{
-    let mut b = Buffers {
-        temp,
-        temp_2,
-        out,
-        aux,
-    };
-    if states.rests() {
-        frames_apart(filter, m, states, &mut b)
-    } else {
-        frames_in_one(filter, m, states, &mut b)
-    }
-}
-
-// All frames, with subnormal products as they come.
-fn frames_plain(
-    filter: LowPass<false>,
-    m: &Modes,
-    states: &mut States,
-    b: &mut Buffers,
-) -> LowPass<false>
-    requires { IsAlike b.old }
-    ensures { Sings filter m.now states.old b.old result states.new b.new }
-{
-    let temp = &mut *b.temp;
-    let temp_2 = &mut *b.temp_2;
-    let out = &mut *b.out;
-    let aux = &mut *b.aux;
-    let n = temp.len();
-    let mut after = filter;
-    for i in (0..n).step_by(64) {
-        let end = n.min(i + 64);
-        after = frames_some(
-            after,
-            m,
-            states,
-            &mut temp[i..end],
-            &mut temp_2[i..end],
-            &mut out[i..end],
-            &mut aux[i..end],
-        );
-    }
-    after
-}
-
-// Both halves' loops as one. Whether `around` is known at run time alone, by the caller in C: it chooses between the two instances.
-fn sound_frames(
-    around: bool,
-    mode: Mode,
-    svf: ResonatorSvf,
-    m: &Modes,
-    mode_filters: [Batch; 6],
-    b: &mut Buffers,
-) -> (ResonatorSvf, [Batch; 6])
-    requires { IsAlike b.old }
-    ensures all { record { filter = result.0; mode_filters = result.1; temp2 = b.new.temp_2.now; out = b.new.out.now; aux = b.new.aux.now } ≡ frames_of mode svf m.now mode_filters b.old.temp.now b.old.temp_2.now b.old.out.now b.old.aux.now }
-    ensures temp { b.new.temp.now ≡ b.old.temp.now }
-    ensures same { IsSame b.new b.old }
-{
-    let mut states = States::from(mode_filters);
-    let after = if around {
-        frames_in_one(LowPass::<true> { mode, svf }, m, &mut states, b).svf
-    } else {
-        frames_plain(LowPass { mode, svf }, m, &mut states, b).svf
-    };
-    (after, states.into())
+    (ahead.filter.svf, states.into())
 }
 
 impl ModalVoice {
@@ -319,6 +186,16 @@ impl ModalVoice {
         }
     }
 
+    // The excitation filter of a block.
+    fn low_pass(self, k: Knobs, cutoff: f32) -> LowPass
+        ensures { result ≡ low_pass_for k cutoff self }
+    {
+        LowPass {
+            mode: modes::resonator::mode_of(cutoff, resonance_for(k), 1.0),
+            svf: self.excitation_filter,
+        }
+    }
+
     // The first half of `render`: the excitation, its filter, and the mix into aux.
     pub fn excite(
         self,
@@ -337,11 +214,10 @@ impl ModalVoice {
         let held = held_after(k, self.held, temp.len());
         let counts = counts_of(k.sustain, temp.len());
         let drawn = fill_excitation(k, self.held, cutoff, temp, word);
-        let filter = self.excitation_filter;
-        let excitation_filter = filter.process_low(cutoff, resonance_for(k), 1.0, temp, temp_2);
+        let filter = settle(self.low_pass(k, cutoff), temp, silent_from(temp), temp_2);
         noise::excitation::add_into(temp_2, aux);
         let voice = ModalVoice {
-            excitation_filter,
+            excitation_filter: filter.svf,
             held,
             ..self
         };
@@ -352,19 +228,50 @@ impl ModalVoice {
         }
     }
 
-    // The second half: the resonator from temp_2 into out. It draws no word.
+    // The second half: the resonator from temp_2 into out, `around` subnormal products or not, which changes no bit. It draws no word.
     #[tactic(auto, unfolding(crate::specs::ModalVoice::sound_of))]
-    pub fn sound(self, k: Knobs, temp_2: &[f32], out: &mut [f32]) -> ModalVoice
+    pub fn sound(self, around: bool, k: Knobs, temp_2: &[f32], out: &mut [f32]) -> ModalVoice
         ensures { sound_of k self temp_2.now out.old ≡ ret record { voice = result; out = out.new } }
     {
         let brightness = noise::excitation::raise(k.accent, k.brightness);
         let damping = noise::excitation::raise(k.accent, k.damping);
         let before = self.resonator;
-        let resonator = before.process(k.f0, k.structure, brightness, damping, temp_2, out);
+        let resonator = before.process(around, k.f0, k.structure, brightness, damping, temp_2, out);
         ModalVoice { resonator, ..self }
     }
 
-    // Both halves, their loops as one; `around` subnormal products or not, which changes no bit.
+    // Both halves in one loop.
+    fn render_in_one(self, k: Knobs, b: &mut Buffers, word: u32) -> Rendered<ModalVoice>
+        requires { IsAlike b.old }
+        ensures { Renders k self b.old word result b.new }
+    {
+        let cutoff = cutoff_for(k);
+        let held = held_after(k, self.held, b.temp.len());
+        let counts = counts_of(k.sustain, b.temp.len());
+        let drawn = fill_excitation(k, self.held, cutoff, b.temp, word);
+        let filter = self.low_pass(k, cutoff);
+        let brightness = noise::excitation::raise(k.accent, k.brightness);
+        let damping = noise::excitation::raise(k.accent, k.damping);
+        let resonator = self.resonator;
+        let amplitude = resonator.mode_amplitude;
+        let modes = modes::resonator::modes_for(amplitude, k.f0, k.structure, brightness, damping);
+        let (svf, mode_filters) = frames_in_one(filter, &modes, resonator.mode_filters, b);
+        let voice = ModalVoice {
+            excitation_filter: svf,
+            resonator: Resonator {
+                mode_filters,
+                ..resonator
+            },
+            held,
+        };
+        Rendered {
+            voice,
+            word: drawn,
+            counts,
+        }
+    }
+
+    // Both halves in turn; a sustained block in one loop, unless it has small modes and is to go around subnormal products.
     pub fn render(self, around: bool, k: Knobs, b: &mut Buffers, word: u32) -> Rendered<ModalVoice>
         requires { IsAlike b.old }
         ensures all { run (render_of k self b.old.temp.now b.old.temp_2.now b.old.out.now b.old.aux.now) word ≡ record {
@@ -380,37 +287,14 @@ impl ModalVoice {
         } }
         ensures same { IsSame b.new b.old }
     {
-        let cutoff = cutoff_for(k);
-        let held = held_after(k, self.held, b.temp.len());
-        let counts = counts_of(k.sustain, b.temp.len());
-        let drawn = fill_excitation(k, self.held, cutoff, b.temp, word);
-        let mode = modes::resonator::mode_of(cutoff, resonance_for(k), 1.0);
-        let brightness = noise::excitation::raise(k.accent, k.brightness);
-        let damping = noise::excitation::raise(k.accent, k.damping);
-        let resonator = self.resonator;
-        let amplitude = resonator.mode_amplitude;
-        let modes = modes::resonator::modes_for(amplitude, k.f0, k.structure, brightness, damping);
-        let svf = self.excitation_filter;
-        let (excitation_filter, mode_filters) = sound_frames(
-            around,
-            mode,
-            svf,
-            &modes,
-            resonator.mode_filters,
-            b,
-        );
-        let resonator = Resonator {
-            mode_filters,
-            ..resonator
-        };
-        Rendered {
-            voice: ModalVoice {
-                excitation_filter,
-                resonator,
-                held,
-            },
-            word: drawn,
-            counts,
+        let small = States::from(self.resonator.mode_filters).any_small();
+        if k.sustain & !(around & small) {
+            self.render_in_one(k, b, word)
+        } else {
+            let temp_2 = &mut *b.temp_2;
+            let e = self.excite(k, b.temp, temp_2, b.aux, word);
+            let voice = e.voice.sound(around, k, temp_2, b.out);
+            Rendered { voice, ..e }
         }
     }
 }

@@ -4,6 +4,4 @@ pub mod OnePass
 pub mod Unique
 pub mod Mirror
 pub mod Grid
-pub mod Bare
 pub mod Constants
-pub mod Steady

@@ -5,7 +5,7 @@ use Prim.Native.Nat.{ℕ, zero, suc, ◌+◌, ◌*◌}
 use lib.ListN.{get_or, length, length-map, replicate}
 use lib.Ieee.{Float, nan}
 use Rattle.ground.specs.F32.{◌⊗◌, c0, c79·7}
-use Rattle.ground.specs.Frames.{scan, tab}
+use Rattle.ground.specs.Frames.{scan, over, tab}
 use Rattle.utils.specs.Utils.{interpolate_of}
 use Rattle.utils.specs.Units.{semitones_to_ratio}
 use Rattle.ground.proofs.Frames.{scan_alike}
@@ -19,7 +19,8 @@ use Rattle.modes.specs.declared.resonator.Resonator.{Resonator}
 use Rattle.modes.specs.declared.resonator.States.{States}
 use Rattle.modes.specs.declared.resonator.Tuned.{Tuned}
 use Rattle.modes.specs.Resonator.{band_step, mode_at, modes_from, batch_step, in_batches, batches, compensation, loss_of, first_of, process_of}
-use Rattle.modes.specs.OnePass.{partial_at, tuned, modes_of, modes_for, mode_here, place_first, place_apart, put_batch, no_batch, states_of, batch_at, filters_of, bands_of, batch_sum, add_batches, frame_of, one_pass}
+use Rattle.modes.specs.OnePass.{partial_at, tuned, modes_of, modes_for, mode_here, place_first, place_apart, put_batch, no_batch, states_of, batch_at, filters_of, batch_sum, add_batches, frame_of, one_pass}
+use Rattle.modes.proofs.Frame.{FullStates, states_tab, states_written}
 
 -- ---- what the modes keep, in batches and side by side
 
@@ -37,6 +38,10 @@ filters_states : (fs : List Batch) → length fs ≡ 6 → filters_of (states_of
 unfolding filters_of batch_at states_of tab
 filters_states fs e = tab_get_d fs 6 no_batch e
 
+states_full : (fs : List Batch) → FullStates (states_of fs)
+unfolding states_of tab
+states_full fs = (refl, refl)
+
 -- ---- all frames through all modes, and all frames through each batch in turn
 
 -- modes by number: in six batches of four, and each at its place
@@ -53,30 +58,35 @@ placed m =
     }
 
 module _ (m : ℕ → Mode) where
-  -- a frame through all modes, and through each batch in turn
-  same_frame : (s : States) (x y : Float)
-      → frame band_step (batched m) (filters_of s) x y
-      ≡ (let b = bands_of (placed m) s x in (filters_of b.states, add_batches y b.bands))
-  unfolding batched placed filters_of batch_at bands_of add_batches batch_sum tab scan
-  same_frame s x y = refl
-
-  -- what holds at each frame of the states side by side and of the batches
+  -- states side by side that are the batches', all of them there
   abbrev Alike : States → List Batch → Type 0
-  Alike s fs = fs ≡ filters_of s
+  Alike s fs = (fs ≡ filters_of s) × FullStates s
+
+  -- a frame through each batch in turn gives what a frame through all modes does
+  abbrev Same : States → Type 0
+  Same s = (x y : Float)
+      → Alike (frame_of (placed m) s x y).0 (frame band_step (batched m) (filters_of s) x y).0
+      × ((frame_of (placed m) s x y).1 ≡ (frame band_step (batched m) (filters_of s) x y).1)
+
+  same_frame : (f g : ℕ → Float) → Same (states_tab f g)
+  unfolding batched placed filters_of batch_at frame_of over add_batches batch_sum tab scan
+  same_frame f g x y = ((refl, (refl, refl)), refl)
 
   alike_frame : (s : States) (fs : List Batch) (x y : Float) → Alike s fs
       → Alike (frame_of (placed m) s x y).0 (frame band_step (batched m) fs x y).0
       × ((frame_of (placed m) s x y).1 ≡ (frame band_step (batched m) fs x y).1)
   alike_frame s fs x y a =
-      let e = ap (λ (gs : List Batch). frame band_step (batched m) gs x y) a ∙ same_frame s x y in
-      (ap (λ q. q.0) e, sym (ap (λ q. q.1) e))
+      subst
+      (λ (gs : List Batch). Alike (frame_of (placed m) s x y).0 (frame band_step (batched m) gs x y).0
+      × ((frame_of (placed m) s x y).1 ≡ (frame band_step (batched m) gs x y).1))
+      (sym a.0) (states_written Same same_frame s a.1 x y)
 
   in_turn : (fs : List Batch) (xs ys : List Float) → length fs ≡ 6
       → one_pass (placed m) fs xs ys ≡ (let q = scan (block band_step xs) ys (batched m) fs in (q.1, q.0))
   unfolding one_pass
   in_turn fs xs ys h =
-      let a = scan_alike Alike (frame_of (placed m)) (frame band_step (batched m)) alike_frame (states_of fs) fs xs ys (sym (filters_states fs h)) in
-      (λ i. (sym a.0 i, a.1 i)) ∙ sym (ap (λ (q : List Float × List Batch). (q.1, q.0)) (exchange band_step (batched m) fs xs ys))
+      let a = scan_alike Alike (frame_of (placed m)) (frame band_step (batched m)) alike_frame (states_of fs) fs xs ys (sym (filters_states fs h), states_full fs) in
+      (λ i. (sym a.0.0 i, a.1 i)) ∙ sym (ap (λ (q : List Float × List Batch). (q.1, q.0)) (exchange band_step (batched m) fs xs ys))
 
 module _ (f0 loss : Float) (p : Partial) (amps : List Float) where
   -- the mode of a number
@@ -112,6 +122,7 @@ pub made : (amps : List Float) (f0 structure brightness damping : Float) {stiffn
 unfolding modes_for
 made amps f0 structure brightness damping es ev eq ep el et ek = rw (ek, et, ep, el, eq, ev, es)
 
+-- all frames through all modes, from batches and back to batches
 pub ran : (k : Modes) (fs : List Batch) (xs ys : List Float) {s s' : States} {zs : List Float} {gs : List Batch}
     → s ≡ states_of fs → ◌≡◌ {A = States × List Float} (s', zs) (scan (frame_of k) s xs ys)
     → gs ≡ filters_of s' → ◌≡◌ {A = List Batch × List Float} (gs, zs) (one_pass k fs xs ys)

@@ -1,22 +1,18 @@
 -- The one-pass form of Resonator::process: the coefficients of all modes first, then each frame through all modes. What belongs to the mode k of the
 -- batch b stands at the place 4 k + b for the batches 0 to 3, and at 4 b + k for 4 and 5. Assumes nothing.
-use Rattle.std.specs.Prelude.{◌≡◌, Bool, false, not, ◌&&◌, ◌||◌, cond, List, ℕ, zero, suc, ◌+◌, ◌*◌, ◌/◌, ◌%◌, eqb, ltb, get_or, length, set, Float}
+use Rattle.std.specs.Prelude.{cond, List, ℕ, ◌+◌, ◌*◌, ◌/◌, ◌%◌, ltb, get_or, set, replicate, Float}
 use Rattle.std.specs.Float.{nan}
-use Rattle.std.specs.Float.Ieee.{lt}
 use Rattle.ground.specs.F32.{◌⊕◌, ◌⊗◌, c0, c79·7}
-use Rattle.ground.specs.Frames.{scan, after, tab}
+use Rattle.ground.specs.Frames.{scan, over, up_to, after, tab}
 use Rattle.utils.specs.Utils.{interpolate_of}
 use Rattle.utils.specs.Units.{semitones_to_ratio}
 use Rattle.modes.specs.declared.resonator.ResonatorSvf.{ResonatorSvf}
 use Rattle.modes.specs.declared.resonator.Batch.{Batch}
 use Rattle.modes.specs.declared.resonator.Mode.{Mode}
-use Rattle.modes.specs.declared.resonator.Ticked.{Ticked}
 use Rattle.modes.specs.declared.resonator.Partial.{Partial}
 use Rattle.modes.specs.declared.resonator.Tuned.{Tuned}
 use Rattle.modes.specs.declared.resonator.Modes.{Modes}
 use Rattle.modes.specs.declared.resonator.States.{States}
-use Rattle.modes.specs.declared.resonator.Quiet.{Quiet}
-use Rattle.modes.specs.Subnormal.{small_plus, small_minus, is_small}
 use Rattle.modes.specs.Resonator.{mode_of, tick_of, absent, modes_in, next_of, frequency, resonance, amplitude, compensation, loss_of, first_of}
 
 -- ---- the coefficients
@@ -99,9 +95,9 @@ batch_at s a d = record { mode_0 = state_at s a; mode_1 = state_at s (a + d); mo
 unfoldable pub filters_of : States → List Batch
 filters_of s = tab 6 (λ b. batch_at s (place_first b) (place_apart b))
 
--- all 24 modes have states
-abbrev pub FullStates : States → Type 0
-FullStates s = (length s.state_1 ≡ 24) × (length s.state_2 ≡ 24)
+-- what a mode keeps, put to its place
+abbrev pub put_state : ResonatorSvf → ℕ → States → States
+put_state m t s = record { state_1 = set s.state_1 t m.state_1; state_2 = set s.state_2 t m.state_2 }
 
 -- ---- a frame
 
@@ -112,51 +108,12 @@ pub record Bands : Type 0 where
 abbrev pub mode_in : Modes → ℕ → Mode
 mode_in k t = record { g = get_or k.g t nan; r_plus_g = get_or k.r_plus_g t nan; h = get_or k.h t nan; gain = get_or k.gain t nan }
 
--- the sample through the mode at a place, and through all
-abbrev pub tick_in : Modes → States → Float → ℕ → Ticked
-tick_in k s x t = tick_of (mode_in k t) (state_at s t) x
-
-unfoldable pub bands_of : Modes → States → Float → Bands
-bands_of k s x =
-    record {
-      states = record { state_1 = tab 24 (λ t. (tick_in k s x t).svf.state_1); state_2 = tab 24 (λ t. (tick_in k s x t).svf.state_2) };
-      bands = tab 24 (λ t. get_or k.gain t nan ⊗ (tick_in k s x t).bp);
-    }
-
--- what a mode keeps, put to its place
-abbrev pub put_state : ResonatorSvf → ℕ → States → States
-put_state m t s = record { state_1 = set s.state_1 t m.state_1; state_2 = set s.state_2 t m.state_2 }
-
--- the sample through the mode at a place alone, and through n from a place on
-abbrev pub place_of : Modes → Bands → Float → ℕ → Bands
-place_of k b x t =
-    let o = tick_in k b.states x t in
-    record { states = put_state o.svf t b.states; bands = set b.bands t (get_or k.gain t nan ⊗ o.bp) }
-
-abbrev pub places_of : ℕ → Modes → Bands → Float → ℕ → Bands
-places_of zero k b x t = b
-places_of (suc n) k b x t = places_of n k (place_of k b x t) x (t + 1)
-
--- whether a mode of four from a place on is small, or of the last 8
-abbrev pub small_four : States → ℕ → Bool
-small_four s t = is_small (state_at s t) || is_small (state_at s (t + 1)) || is_small (state_at s (t + 2)) || is_small (state_at s (t + 3))
-
-unfoldable pub rests_of : States → Bool
-rests_of s = small_four s 16 || small_four s 20
-
--- where small modes are, for a sample that is small
-unfoldable pub quiet_of : States → Float → Quiet
-quiet_of s x =
-    cond (not (lt x small_plus && lt small_minus x))
-    (record { low = false; high = false })
-    (record {
-      low = small_four s 0 || small_four s 4 || small_four s 8 || small_four s 12;
-      high = rests_of s;
-    })
-
--- the same at each 16th frame
-unfoldable pub quiet_at : Quiet → States → Float → ℕ → Quiet
-quiet_at quiet s x i = cond (eqb (i % 16) 0) (quiet_of s x) quiet
+-- the sample through the mode at a place, and what is heard of it
+abbrev pub place_of : Modes → Float → Bands → ℕ → Bands
+place_of k x b t =
+    let m = mode_in k t in
+    let o = tick_of m (state_at b.states t) x in
+    record { states = put_state o.svf t b.states; bands = set b.bands t (m.gain ⊗ o.bp) }
 
 -- the sum of the batch that stands at a and each d on, and all sums added to y in turn
 unfoldable pub batch_sum : List Float → ℕ → ℕ → Float
@@ -165,16 +122,10 @@ batch_sum p a d = c0 ⊕ get_or p a nan ⊕ get_or p (a + d) nan ⊕ get_or p (a
 unfoldable pub add_batches : Float → List Float → Float
 add_batches y p = y ⊕ batch_sum p 0 4 ⊕ batch_sum p 1 4 ⊕ batch_sum p 2 4 ⊕ batch_sum p 3 4 ⊕ batch_sum p 16 1 ⊕ batch_sum p 20 1
 
--- the sum of a batch with no +0 before it
-unfoldable pub bare_sum : List Float → ℕ → ℕ → Float
-bare_sum p a d = get_or p a nan ⊕ get_or p (a + d) nan ⊕ get_or p (a + 2 * d) nan ⊕ get_or p (a + 3 * d) nan
-
--- +0 added to y, then the sum of each batch in turn
-unfoldable pub add_bare : Float → List Float → Float
-add_bare y p = y ⊕ c0 ⊕ bare_sum p 0 4 ⊕ bare_sum p 1 4 ⊕ bare_sum p 2 4 ⊕ bare_sum p 3 4 ⊕ bare_sum p 16 1 ⊕ bare_sum p 20 1
-
-abbrev pub frame_of : Modes → States → Float → Float → States × Float
-frame_of k s x y = let b = bands_of k s x in (b.states, add_batches y b.bands)
+unfoldable pub frame_of : Modes → States → Float → Float → States × Float
+frame_of k s x y =
+    let b = over (place_of k x) (record { states = s; bands = replicate 24 c0 }) (up_to 24) in
+    (b.states, add_batches y b.bands)
 
 unfoldable pub one_pass : Modes → List Batch → List Float → List Float → List Batch × List Float
 one_pass k fs xs ys = let u = scan (frame_of k) (states_of fs) xs ys in (filters_of u.0, u.1)

@@ -1,12 +1,12 @@
 // Resonator, taken from Rings' code but with fixed position: 24 modes in six batches of four.
-ghost use Rattle.std.specs.Prelude.{◌≡◌, cond, ◌+◌, ◌*◌, ◌-◌, ◌<◌, ◌≤◌, length};
-ghost use Rattle.std.specs.Float.Ieee.{lt};
-ghost use Rattle.ground.specs.F32.{◌⊗◌, c0, c0·93, c0·98};
-ghost use Rattle.modes.specs.Subnormal.{is_small};
-ghost use Rattle.modes.specs.Resonator.{svf_new, mode_of, tick_of, low_block, filters_new, resonator_new, resonator_init, cap_of, shrunk, next_of, compensation, first_of, loss_of, process_of};
-ghost use Rattle.modes.specs.OnePass.{tuned, mode_here, modes_of, modes_for, place_first, place_apart, put_batch, states_of, state_at, put_state, batch_at, filters_of, FullStates, mode_in, place_of, places_of, small_four, rests_of, quiet_of, quiet_at, bare_sum, add_bare, frame_of, one_pass};
+ghost use Rattle.std.specs.Prelude.{◌≡◌, ◌+◌, ◌*◌, ◌-◌, ◌<◌};
+ghost use Rattle.ground.specs.F32.{◌⊗◌};
+ghost use Rattle.ground.specs.Frames.{scan};
+ghost use Rattle.modes.specs.Resonator.{svf_new, mode_of, tick_of, filters_new, resonator_new, resonator_init, cap_of, shrunk, next_of, compensation, first_of, loss_of, process_of};
+ghost use Rattle.modes.specs.OnePass.{tuned, mode_here, modes_of, modes_for, place_first, place_apart, put_batch, states_of, state_at, put_state, batch_at, filters_of, mode_in, place_of, batch_sum, add_batches, frame_of};
+ghost use Rattle.modes.specs.Subnormal.{is_small_mode, any_small, small_at};
 
-use crate::subnormal::product;
+use crate::subnormal::{is_small, product};
 use utils::filter::FrequencyApproximation;
 
 // What a mode keeps: ResonatorSvf<1>, and a mode of ResonatorSvf<4>.
@@ -82,13 +82,6 @@ pub struct States {
     pub state_2: [f32; 24],
 }
 
-// Whether small modes are among the first 16 places, and among the last 8: two answers, and neither says that a value is absent.
-#[derive(Clone, Copy, Default)]
-pub struct Quiet {
-    pub low: bool,
-    pub high: bool,
-}
-
 // ---- ResonatorSvf
 
 impl ResonatorSvf {
@@ -101,28 +94,6 @@ impl ResonatorSvf {
             state_1: 0.0,
             state_2: 0.0,
         }
-    }
-
-    // `process` of one mode at LowPass, not added.
-    pub fn process_low(
-        self,
-        f: f32,
-        q: f32,
-        gain: f32,
-        in_: &[f32],
-        out: &mut [f32],
-    ) -> ResonatorSvf
-        ensures { (result, out.new) ≡ low_block (mode_of f q gain) self in_.now out.old }
-    {
-        let k = mode_of(f, q, gain);
-        let mut svf = self;
-        // by index: a proof knows nothing of what a zip with `iter_mut` wrote
-        for i in 0..in_.len().min(out.len()) {
-            let t = tick::<false>(k, svf, in_[i]);
-            out[i] = 0.0 + k.gain * t.lp;
-            svf = t.svf;
-        }
-        svf
     }
 }
 
@@ -141,11 +112,10 @@ pub fn mode_of(f: f32, q: f32, gain: f32) -> Mode
 }
 
 // Whether products of what a mode keeps may be subnormal.
-#[tactic(auto, unfolding(crate::specs::Subnormal::is_small), using(crate::proofs::Constants::minus_small))]
-pub fn is_small(s: ResonatorSvf) -> bool
-    ensures { result ≡ is_small s }
+pub fn is_small_mode(s: ResonatorSvf) -> bool
+    ensures { result ≡ is_small_mode s }
 {
-    (s.state_1 < 1.0e-35) & (s.state_1 > -1.0e-35) & (s.state_2 < 1.0e-35) & (s.state_2 > -1.0e-35)
+    is_small(s.state_1) & is_small(s.state_2)
 }
 
 // The product of a and b; at SMALL as if it were subnormal.
@@ -188,26 +158,22 @@ fn cap(f: f32) -> f32
 fn shrink(stiffness: f32) -> f32
     ensures { result ≡ shrunk stiffness }
 {
-    stiffness * shrinkage(stiffness)
-}
-
-// The factor of that, which is the same at every mode.
-fn shrinkage(stiffness: f32) -> f32
-    ensures { result ≡ cond (lt stiffness c0) c0·93 c0·98 }
-{
-    if stiffness < 0.0 { 0.93 } else { 0.98 }
+    if stiffness < 0.0 {
+        stiffness * 0.93
+    } else {
+        stiffness * 0.98
+    }
 }
 
 // The next mode's. Every field moves on, so that none is copied.
 #[tactic(auto, unfolding(crate::specs::Resonator::next_of))]
-fn next_partial(f0: f32, q_loss: f32, shrinkage: f32, p: Partial) -> Partial
-    requires { shrunk p.stiffness ≡ p.stiffness ⊗ shrinkage }
+fn next_partial(f0: f32, q_loss: f32, p: Partial) -> Partial
     ensures { result ≡ next_of f0 q_loss p }
 {
     Partial {
         harmonic: p.harmonic + f0,
         stretch_factor: p.stretch_factor + p.stiffness,
-        stiffness: p.stiffness * shrinkage,
+        stiffness: shrink(p.stiffness),
         q: p.q * q_loss,
     }
 }
@@ -254,7 +220,6 @@ fn tune(mode_amplitude: [f32; 24], f0: f32, q_loss: f32, first: Partial) -> Tune
         q: [0.0; 24],
         a: [0.0; 24],
     };
-    let factor = shrinkage(first.stiffness);
     let mut p = first;
     // by index: three arrays are written at the place where one is read
     for i in 0..24 {
@@ -262,7 +227,7 @@ fn tune(mode_amplitude: [f32; 24], f0: f32, q_loss: f32, first: Partial) -> Tune
         t.f[i] = mode_frequency;
         t.q[i] = 1.0 + mode_frequency * p.q;
         t.a[i] = mode_amplitude[i] * (1.0 - mode_frequency * 2.0);
-        p = next_partial(f0, q_loss, factor, p);
+        p = next_partial(f0, q_loss, p);
     }
     t
 }
@@ -382,51 +347,26 @@ impl States {
         }
     }
 
-    // Whether one of four modes from i on is small. All four are looked at, where `any` would stop at the first, so that no branch stands between them.
-    #[tactic(auto, using(crate::proofs::Frame::small_begin, crate::proofs::Frame::small_turn, crate::proofs::Frame::small_end))]
-    fn any_small(&self, i: usize) -> bool
-        requires { i + 4 ≤ 24 }
-        ensures { result ≡ small_four self.now i }
+    // Whether a mode is small. All are looked at, where `any` would stop at the first, so that no branch stands between them.
+    pub fn any_small(&self) -> bool
+        ensures { result ≡ any_small self.now }
     {
         let mut small = false;
-        for t in i..i + 4 {
-            small |= is_small(self.mode_at(t));
+        for t in 0..24 {
+            small |= is_small_mode(self.mode_at(t));
         }
         small
     }
 
-    // Whether one of the last 8 modes is.
-    #[tactic(auto, unfolding(crate::specs::OnePass::rests_of))]
-    pub fn rests(&self) -> bool
-        ensures said { result ≡ rests_of self.now }
-        ensures full { FullStates self.now }
-    {
-        self.any_small(16) | self.any_small(20)
-    }
-
-    // Where small modes are, for a sample that is small.
-    #[tactic(auto, unfolding(crate::specs::OnePass::quiet_of), using(crate::proofs::Constants::minus_small))]
-    fn quiet_of(&self, x: f32) -> Quiet
-        ensures { result ≡ quiet_of self.now x }
-    {
-        if !((x < 1.0e-35) & (x > -1.0e-35)) {
-            return Quiet::default();
-        }
-        Quiet {
-            low: self.any_small(0) | self.any_small(4) | self.any_small(8) | self.any_small(12),
-            high: self.rests(),
-        }
-    }
-
-    // The same at each 16th frame; at the others it stands.
-    #[tactic(auto, unfolding(crate::specs::OnePass::quiet_at))]
-    pub fn quiet_at(&self, quiet: Quiet, x: f32, i: usize) -> Quiet
-        ensures { result ≡ quiet_at quiet self.now x i }
+    // Whether the sample is small, and a mode, at each 16th frame; at the others it stands.
+    #[tactic(auto, unfolding(crate::specs::Subnormal::small_at))]
+    fn small_at(&self, small: bool, x: f32, i: usize) -> bool
+        ensures { result ≡ small_at self.now small x i }
     {
         if i % 16 == 0 {
-            return self.quiet_of(x);
+            return is_small(x) && self.any_small();
         }
-        quiet
+        small
     }
 }
 
@@ -485,7 +425,7 @@ impl Modes {
         t: usize,
     )
         requires { t < 24 }
-        ensures { record { states = states.new; bands = bands.new } ≡ place_of self.now (record { states = states.old; bands = bands.old }) x t }
+        ensures { record { states = states.new; bands = bands.new } ≡ place_of self.now x (record { states = states.old; bands = bands.old }) t }
     {
         let k = self.mode_at(t);
         let o = tick::<SMALL>(k, states.mode_at(t), x);
@@ -493,71 +433,38 @@ impl Modes {
         bands[t] = times::<SMALL>(k.gain, o.bp);
     }
 
-    // A sample through the modes from i on and below `end`, each of them tested at TESTED.
+    // A frame: each mode, tested at TESTED, then every sum. The compiler would leave a second call of it a call.
     #[inline(always)]
-    pub fn tick_places<const TESTED: bool>(
-        &self,
-        states: &mut States,
-        bands: &mut [f32; 24],
-        x: f32,
-        i: usize,
-        end: usize,
-    )
-        requires { (i ≤ end) × (end ≤ 24) }
-        ensures { record { states = states.new; bands = bands.new } ≡ places_of (end - i) self.now (record { states = states.old; bands = bands.old }) x i }
-    {
-        for t in i..end {
-            if TESTED && is_small(states.mode_at(t)) {
-                self.tick_place::<true>(states, bands, x, t);
-            } else {
-                self.tick_place::<false>(states, bands, x, t);
-            }
-        }
-    }
-
-    // A frame: the modes at the first UNTESTED places as they come, the others each tested, then every sum. The compiler would leave a second call of it a call.
-    #[inline(always)]
-    pub fn frame<const UNTESTED: usize>(&self, states: &mut States, x: f32, y: f32) -> f32
-        requires { UNTESTED ≤ 24 }
+    pub fn frame<const TESTED: bool>(&self, states: &mut States, x: f32, y: f32) -> f32
         ensures { (states.new, result) ≡ frame_of self.now states.old x y }
     {
         let mut bands = [0.0f32; 24];
-        self.tick_places::<false>(states, &mut bands, x, 0, UNTESTED);
-        self.tick_places::<true>(states, &mut bands, x, UNTESTED, 24);
+        for t in 0..24 {
+            if TESTED && is_small_mode(states.mode_at(t)) {
+                self.tick_place::<true>(states, &mut bands, x, t);
+            } else {
+                self.tick_place::<false>(states, &mut bands, x, t);
+            }
+        }
         add_batches(y, &bands)
-    }
-
-    // A frame, the modes tested where small ones may be. The flags are found at run time, and choose an instance whose loops have ends that the compiler knows.
-    pub fn frame_at(&self, quiet: Quiet, states: &mut States, x: f32, y: f32) -> f32
-        ensures { (states.new, result) ≡ frame_of self.now states.old x y }
-    {
-        if quiet.low {
-            return self.frame::<0>(states, x, y);
-        }
-        if quiet.high {
-            return self.frame::<16>(states, x, y);
-        }
-        self.frame::<24>(states, x, y)
     }
 }
 
 // The sum of a batch. Its line shows the order of the four terms, which a loop would not.
-#[tactic(auto, unfolding(crate::specs::OnePass::bare_sum))]
+#[tactic(auto, unfolding(crate::specs::OnePass::batch_sum))]
 fn batch_sum(bands: &[f32; 24], first: usize, apart: usize) -> f32
     requires { first + 3 * apart < 24 }
-    ensures { result ≡ bare_sum bands.now first apart }
+    ensures { result ≡ batch_sum bands.now first apart }
 {
-    bands[first] + bands[first + apart] + bands[first + 2 * apart] + bands[first + 3 * apart]
+    0.0 + bands[first] + bands[first + apart] + bands[first + 2 * apart] + bands[first + 3 * apart]
 }
 
-// The sum of each batch, added to y in turn; 0.0 is added once, to y, so that none of the sums has to begin with it.
-// The six rows are the table of the batches' places, and their order is the order of the sums.
-#[tactic(auto, unfolding(crate::specs::OnePass::add_bare))]
-pub fn add_batches(y: f32, bands: &[f32; 24]) -> f32
-    ensures { result ≡ add_bare y bands.now }
+// The sum of each batch, added to y in turn. The six rows are the table of the batches' places, and their order is the order of the sums.
+#[tactic(auto, unfolding(crate::specs::OnePass::add_batches))]
+fn add_batches(y: f32, bands: &[f32; 24]) -> f32
+    ensures { result ≡ add_batches y bands.now }
 {
-    y + 0.0
-        + batch_sum(bands, 0, 4)
+    y + batch_sum(bands, 0, 4)
         + batch_sum(bands, 1, 4)
         + batch_sum(bands, 2, 4)
         + batch_sum(bands, 3, 4)
@@ -565,16 +472,30 @@ pub fn add_batches(y: f32, bands: &[f32; 24]) -> f32
         + batch_sum(bands, 20, 1)
 }
 
-// Each frame through all modes.
-fn run_frames(k: &Modes, mode_filters: [Batch; 6], in_: &[f32], out: &mut [f32]) -> [Batch; 6]
-    ensures { (result, out.new) ≡ one_pass k.now mode_filters in_.now out.old }
+// Each frame through all modes, its products as they come.
+fn run_frames(k: &Modes, states: &mut States, in_: &[f32], out: &mut [f32])
+    ensures { (states.new, out.new) ≡ scan (frame_of k.now) states.old in_.now out.old }
 {
-    let mut states = States::from(mode_filters);
     // by index: a proof knows nothing of what a zip with `iter_mut` wrote
     for i in 0..in_.len().min(out.len()) {
-        out[i] = k.frame::<24>(&mut states, in_[i], out[i]);
+        out[i] = k.frame::<false>(states, in_[i], out[i]);
     }
-    states.into()
+}
+
+// The same around subnormal products.
+fn run_frames_around(k: &Modes, states: &mut States, in_: &[f32], out: &mut [f32])
+    ensures { (states.new, out.new) ≡ scan (frame_of k.now) states.old in_.now out.old }
+{
+    let mut small = false;
+    // by index, for the same reason
+    for i in 0..in_.len().min(out.len()) {
+        small = states.small_at(small, in_[i], i);
+        out[i] = if small {
+            k.frame::<true>(states, in_[i], out[i])
+        } else {
+            k.frame::<false>(states, in_[i], out[i])
+        };
+    }
 }
 
 // ---- Resonator
@@ -601,9 +522,10 @@ impl Resonator {
         }
     }
 
-    // The six batches in one pass over the frames. The parameters are those of the Rust's `process`.
+    // The six batches in one pass over the frames, `around` subnormal products or not, which changes no bit. The parameters behind it are those of the Rust's `process`.
     pub fn process(
         self,
+        around: bool,
         f0: f32,
         structure: f32,
         brightness: f32,
@@ -614,9 +536,14 @@ impl Resonator {
         ensures { (result, out.new) ≡ process_of self f0 structure brightness damping in_.now out.old }
     {
         let k = modes_for(self.mode_amplitude, f0, structure, brightness, damping);
-        let mode_filters = run_frames(&k, self.mode_filters, in_, out);
+        let mut states = States::from(self.mode_filters);
+        if around {
+            run_frames_around(&k, &mut states, in_, out);
+        } else {
+            run_frames(&k, &mut states, in_, out);
+        }
         Resonator {
-            mode_filters,
+            mode_filters: states.into(),
             ..self
         }
     }

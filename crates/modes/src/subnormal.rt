@@ -1,7 +1,15 @@
 // Products that may be subnormal, without the processor's slow path for them.
 ghost use Rattle.std.specs.Prelude.{◌≡◌};
 ghost use Rattle.ground.specs.F32.{◌⊗◌};
-ghost use Rattle.modes.specs.Subnormal.{zero_of, on_grid};
+ghost use Rattle.modes.specs.Subnormal.{is_small, zero_of, on_grid};
+
+// Whether products of x may be subnormal.
+#[tactic(auto, unfolding(crate::specs::Subnormal::is_small), using(crate::proofs::Constants::minus_small))]
+pub fn is_small(x: f32) -> bool
+    ensures { result ≡ is_small x }
+{
+    (x < 1.0e-35) & (x > -1.0e-35)
+}
 
 // 0, of p's sign.
 #[tactic(auto, unfolding(crate::specs::Subnormal::zero_of), using(crate::proofs::Constants::minus_zero))]

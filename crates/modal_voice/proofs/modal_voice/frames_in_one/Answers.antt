@@ -1,29 +1,34 @@
 -- `modal_voice::frames_in_one` meets its contract: the loops that it joins, each by the law of loops over frames.
-use mathlib.Core.Path.{refl}
 use native.Mathlib.Omega.{arith}
-use borrow.Author.Rules.{rules}
-use Rattle.modal_voice.proofs.OneLoop.{underway_begin, underway_turn, underway_end}
+use Rattle.modal_voice.proofs.OneLoop.{underway_begin, underway_turn, underway_filtered, underway_mixed, underway_passed}
 use Rattle.modal_voice.proofs.modal_voice.frames_in_one.Goals as goal
 
 pub loop-i-init : goal.loop-i-init
-loop-i-init g c =
+loop-i-init c =
     let a = c.args in
     let b = a.b.now in
-    underway_begin a.filter a.m.now a.states.now b.temp.now b.temp_2.now b.out.now b.aux.now c.requires (search rules) c.first-ahead.ensures
+    underway_begin a.filter a.m.now c.from-states.result b.temp.now b.temp_2.now b.out.now b.aux.now c.requires c.first-ahead.ensures
 
 pub loop-i-preserved : goal.loop-i-preserved
-loop-i-preserved g c =
+loop-i-preserved c =
     let a = c.args in
     let b = a.b.now in
-    let q = c.on-ahead.ensures in
-    underway_turn a.filter a.m.now a.states.now b.temp.now b.temp_2.now b.out.now b.aux.now c.loop-i.invariant (omega arith) q c.frame_at.ensures
+    underway_turn a.filter a.m.now c.from-states.result b.temp.now b.temp_2.now b.out.now b.aux.now c.loop-i.invariant (omega arith) c.on-ahead.ensures c.frame.ensures
 
-pub returns : goal.returns
-returns g c =
+pub returns-clause-filtered : goal.returns-clause-filtered
+returns-clause-filtered c =
     let a = c.args in
     let b = a.b.now in
-    record {
-      all = underway_end a.filter a.m.now a.states.now b.temp.now b.temp_2.now b.out.now b.aux.now c.loop-i.invariant (omega arith);
-      temp = refl;
-      same = record { temp = refl; temp2 = refl; out = refl; aux = refl };
-    }
+    underway_filtered a.filter a.m.now c.from-states.result b.temp.now b.temp_2.now b.out.now b.aux.now c.loop-i.invariant (omega arith)
+
+pub returns-clause-mixed : goal.returns-clause-mixed
+returns-clause-mixed c =
+    let a = c.args in
+    let b = a.b.now in
+    underway_mixed a.filter a.m.now c.from-states.result b.temp.now b.temp_2.now b.out.now b.aux.now c.loop-i.invariant (omega arith)
+
+pub returns-clause-passed : goal.returns-clause-passed
+returns-clause-passed c =
+    let a = c.args in
+    let b = a.b.now in
+    underway_passed a.filter a.m.now c.from-states.result b.temp.now b.temp_2.now b.out.now b.aux.now c.loop-i.invariant (omega arith) a.mode_filters c.from-states.ensures c.into.ensures

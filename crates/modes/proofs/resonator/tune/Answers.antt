@@ -1,29 +1,19 @@
 -- `resonator::tune` meets its contract, by the law of loops that store a value at each place.
-use mathlib.Core.Path.{refl, sym, ◌∙◌, ap, subst}
+use mathlib.Core.Path.{refl}
 use lib.ListN.{get_or}
-use lib.Ieee.{Float, nan, lt}
-use Rattle.ground.specs.F32.{◌⊗◌, c0}
+use lib.Ieee.{nan}
 use Rattle.ground.proofs.Frames.{after_turn}
 use Rattle.ground.proofs.Tab.{stored_begin, stored_turn, stored_end}
 use Rattle.modes.specs.Resonator.{next_of}
 use Rattle.modes.specs.OnePass.{tuned}
-use Rattle.modes.specs.declared.resonator.Partial.{Partial}
-use Rattle.modes.proofs.Steady.{Steady, steady_begin, steady_turn}
 use Rattle.modes.proofs.Frame.{stored_f, stored_q, stored_a}
 use native.Mathlib.Omega.{arith}
 use Rattle.modes.proofs.resonator.tune.Goals as goal
 
 pub loop-i-init : goal.loop-i-init
-loop-i-init c = (refl, stored_begin, stored_begin, stored_begin, steady_begin c.args.first.stiffness)
-
-pub next_partial-p-requires : goal.next_partial-p-requires
-next_partial-p-requires c =
-    let l = c.loop-i in
-    let s = l.p.stiffness in
-    (steady_turn (lt c.args.first.stiffness c0) s l.invariant.4).0 ∙ ap (λ (f : Float). s ⊗ f) (sym c.shrinkage-factor.ensures)
+loop-i-init c = (refl, stored_begin, stored_begin, stored_begin)
 
 pub loop-i-preserved : goal.loop-i-preserved
-unfolding next_of
 loop-i-preserved c =
     let l = c.loop-i in
     let a = c.args in
@@ -33,7 +23,6 @@ loop-i-preserved c =
       stored_turn l.invariant.1 (omega arith) (stored_f e s),
       stored_turn l.invariant.2 (omega arith) (stored_q e s),
       stored_turn l.invariant.3 (omega arith) (stored_a e s (get_or a.mode_amplitude l.i nan)),
-      subst (λ (p : Partial). Steady (lt a.first.stiffness c0) p.stiffness) (sym c.next_partial-p.ensures) (steady_turn (lt a.first.stiffness c0) l.p.stiffness l.invariant.4).1,
     )
 
 pub returns : goal.returns

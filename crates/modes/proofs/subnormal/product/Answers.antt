@@ -1,6 +1,6 @@
 -- `subnormal::product` meets its contract.
 use mathlib.Core.Path.{◌∙◌}
-use lib.Ieee.{binary32, of_bits, neg}
+use lib.Ieee.{of_bits, neg}
 use borrow.Author.Rules.{rules}
 use Rattle.modes.proofs.Grid.{small_on_grid}
 use Rattle.modes.proofs.subnormal.product.Goals as goal

@@ -1,6 +1,5 @@
 -- `resonator::ArrayBatch6FromStates::from` meets its contract: each batch stands at its number.
 use mathlib.Core.Path.{◌∙◌}
-use Prim.Native.Nat.{ℕ}
 use Rattle.ground.proofs.Tab.{stored_begin, stored_turn, stored_end}
 use Rattle.modes.specs.OnePass.{batch_at, filters_of}
 use native.Mathlib.Omega.{arith}

@@ -1,10 +1,23 @@
--- `resonator::Modes::frame` meets its contract.
-use Rattle.modes.proofs.Frame.{framed}
-use borrow.Author.Rules.{rules}
+-- `resonator::Modes::frame` meets its contract, by the law of loops that only count.
+use mathlib.Core.Path.{◌∙◌, ap}
+use native.Mathlib.Omega.{arith}
+use Rattle.ground.proofs.Frames.{counted_begin, counted_turn, counted_end}
+use Rattle.modes.specs.OnePass.{Bands, add_batches, frame_of}
 use Rattle.modes.proofs.resonator.Modes.frame.Goals as goal
+use Rattle.modes.proofs.resonator.Modes.frame.Goals.{then-this-ne0+then-is_small_mode, else-this-ne0}
+
+pub loop-t-init : goal.loop-t-init
+loop-t-init g c = counted_begin
+
+pub loop-t-preserved : goal.loop-t-preserved
+loop-t-preserved g c =
+    counted_turn c.loop-t.invariant (omega arith) (elim c.if-this-ne0.branch [
+      | then-this-ne0+then-is_small_mode w ↦ (λ j. record { states = w.states-is j; bands = w.bands-is j }) ∙ w.tick_place.ensures
+      | else-this-ne0 w ↦ (λ j. record { states = w.states-is j; bands = w.bands-is j }) ∙ w.tick_place-else-this-ne0.ensures
+    ])
 
 pub returns : goal.returns
+unfolding frame_of
 returns g c =
-    let a = c.args in
-    framed a.self.now g.row.UNTESTED a.states.now a.x a.y c.requires (search rules, search rules) (search rules)
-    c.tick_places.ensures c.tick_places-2.ensures c.add_batches.ensures
+    let e = counted_end c.loop-t.invariant (omega arith) in
+    λ j. ((e j).states, (c.add_batches.ensures ∙ ap (λ (b : Bands). add_batches c.args.y b.bands) e) j)
