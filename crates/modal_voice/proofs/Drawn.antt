@@ -14,7 +14,7 @@ use Rattle.modes.specs.declared.resonator.Batch.{Batch}
 use Rattle.modes.specs.declared.resonator.Partial.{Partial}
 use Rattle.modes.specs.declared.resonator.Resonator.{Resonator}
 use Rattle.modal_voice.specs.declared.modal_voice.ModalVoice.{ModalVoice}
-use Rattle.modes.specs.Resonator.{mode_of, low_step, low_block, band_step, modes_from, batch_step, in_batches, batches, process_of}
+use Rattle.modes.specs.Resonator.{mode_of, low_step, svf_process_low, band_step, modes_from, batch_step, in_batches, batches, resonator_process}
 use Rattle.modal_voice.specs.ModalVoice.{cutoff_for, resonance_for, excitation, held_after, excitation_words, excitation_counts, Excited, excite_of, sound_of, After, render_of}
 use Rattle.modal_voice.proofs.Excitations.{excitation_draws}
 
@@ -29,7 +29,7 @@ pub record FirstHalf (k : Knobs) (v : ModalVoice) (n : ℕ) (x : Excited) : Type
 
 pub excite_draws : (k : Knobs) (v : ModalVoice) (n : ℕ) (temp temp2 aux : List Float) → length temp ≡ n → length temp2 ≡ n → length aux ≡ n
     → Draws (excitation_words k.sustain n) (FirstHalf k v n) (excite_of k v temp temp2 aux)
-unfolding excite_of low_block
+unfolding excite_of svf_process_low
 excite_draws k v n temp temp2 aux lt l2 la =
     let m = excitation_words k.sustain n in
     let x = excitation k.sustain k v.held (cutoff_for k) temp in
@@ -56,8 +56,8 @@ unfolding batches
 batches_length f0 loss p amps fs xs ys =
     (scan_keeps (batch_step f0 loss xs) (λ s. length s.1 ≡ length ys) (batch_length f0 loss xs (length ys)) (p, ys) (in_batches amps) fs refl).0
 
-process_length : (r : Resonator) (f0 structure brightness damping : Float) (xs ys : List Float) → length (process_of r f0 structure brightness damping xs ys).1 ≡ length ys
-unfolding process_of
+process_length : (r : Resonator) (f0 structure brightness damping : Float) (xs ys : List Float) → length (resonator_process r f0 structure brightness damping xs ys).1 ≡ length ys
+unfolding resonator_process
 process_length r f0 structure brightness damping xs ys = batches_length _ _ _ r.mode_amplitude r.mode_filters xs ys
 
 -- what a render of n frames leaves: whether a strike is held, every length, and the words that it drew

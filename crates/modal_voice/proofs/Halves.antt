@@ -20,7 +20,7 @@ use Rattle.modes.proofs.OnePass.{processed}
 use Rattle.modal_voice.specs.declared.modal_voice.ModalVoice.{ModalVoice}
 use Rattle.modal_voice.specs.declared.modal_voice.LowPass.{LowPass}
 use Rattle.modal_voice.specs.OneLoop.{low_pass_for}
-use Rattle.modes.specs.Resonator.{low_block, process_of}
+use Rattle.modes.specs.Resonator.{svf_process_low, resonator_process}
 use Rattle.modal_voice.specs.ModalVoice.{cutoff_for, strike_of, clicked, excitation, held_after, excitation_words, excitation_counts, excite_of, Sounded, sound_of, render_of}
 use Rattle.modal_voice.proofs.Excitations.{excitation_draws}
 
@@ -48,7 +48,7 @@ module _ (k : Knobs) (v : ModalVoice) (temp temp2 aux : List Float) (word : ℕ)
   pub excited : {cutoff : Float} {f : LowPass} {held : Bool} {w : ℕ} {filter : ResonatorSvf} {temp' temp2' aux' : List Float} {counts : Counts}
       → cutoff ≡ cutoff_for k → f ≡ low_pass_for k cutoff v → held ≡ held_after k v.held (length temp)
       → run (excitation k.sustain k v.held cutoff temp) word ≡ record { value = temp'; word = w }
-      → ◌≡◌ {A = ResonatorSvf × List Float} (filter, temp2') (low_block f.mode f.svf temp' temp2)
+      → ◌≡◌ {A = ResonatorSvf × List Float} (filter, temp2') (svf_process_low f.mode f.svf temp' temp2)
       → aux' ≡ added temp2' aux
       → counts ≡ excitation_counts (excitation_words k.sustain (length temp))
       → run (excite_of k v temp temp2 aux) word ≡ record {
@@ -66,13 +66,13 @@ module _ (k : Knobs) (v : ModalVoice) (temp temp2 aux : List Float) (word : ℕ)
       let m = excitation k.sustain k v.held cutoff temp in
       let n = excitation_words k.sustain (length temp) in
       let e = counted_then n (λ t. length t ≡ length temp) m word (excitation_draws k.sustain k v.held cutoff (length temp) temp refl) et in
-      let q = el ∙ ap (λ (f : LowPass). low_block f.mode f.svf temp' temp2) ef in
+      let q = el ∙ ap (λ (f : LowPass). svf_process_low f.mode f.svf temp' temp2) ef in
       rw (← ec) (run_then (counted m) _ word e ∙ rw (en, ea, ap (λ q. q.0) q, ap (λ q. q.1) q, eh))
 
 module _ (k : Knobs) (v : ModalVoice) (temp2 out : List Float) where
   pub sounded : {b d : Float} {r : Resonator} {out' : List Float}
       → b ≡ raised k.accent k.brightness → d ≡ raised k.accent k.damping
-      → ◌≡◌ {A = Resonator × List Float} (r, out') (process_of v.resonator k.f0 k.structure b d temp2 out)
+      → ◌≡◌ {A = Resonator × List Float} (r, out') (resonator_process v.resonator k.f0 k.structure b d temp2 out)
       → sound_of k v temp2 out ≡ ret record { voice = record { excitation_filter = v.excitation_filter; resonator = r; held = v.held }; out = out' }
   unfolding sound_of
   sounded eb ed e =
@@ -98,7 +98,7 @@ module _ (k : Knobs) (v : ModalVoice) (temp temp2 out aux : List Float) (word : 
       → run (excitation k.sustain k v.held cutoff temp) word ≡ record { value = temp'; word = w }
       → b ≡ raised k.accent k.brightness → d ≡ raised k.accent k.damping
       → modes ≡ modes_for v.resonator.mode_amplitude k.f0 k.structure b d
-      → ◌≡◌ {A = ResonatorSvf × List Float} (filter, temp2') (low_block f.mode f.svf temp' temp2)
+      → ◌≡◌ {A = ResonatorSvf × List Float} (filter, temp2') (svf_process_low f.mode f.svf temp' temp2)
       → aux' ≡ added temp2' aux
       → ◌≡◌ {A = List Batch × List Float} (gs, out') (one_pass modes v.resonator.mode_filters temp2' out)
       → counts ≡ excitation_counts (excitation_words k.sustain (length temp))

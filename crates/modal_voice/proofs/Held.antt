@@ -11,7 +11,7 @@ use Rattle.ground.specs.Draw.{Draw, ret, counted, ◌>>=◌}
 use Rattle.noise.specs.declared.excitation.Knobs.{Knobs}
 use Rattle.noise.specs.Excitation.{added}
 use Rattle.modal_voice.specs.declared.modal_voice.ModalVoice.{ModalVoice}
-use Rattle.modes.specs.Resonator.{mode_of, low_block}
+use Rattle.modes.specs.Resonator.{mode_of, svf_process_low}
 use Rattle.modal_voice.specs.ModalVoice.{cutoff_for, resonance_for, clicked, excitation, held_after, excitation_counts, Excited, excite_of, sound_of, render_of}
 
 -- the same knobs, triggered
@@ -54,7 +54,7 @@ unfolding excite_of cutoff_for
 first_half k v temp temp2 aux l =
     ap₂
     (λ (m : Draw (List Float)) (h : Bool). counted m >>= λ t.
-    let f = low_block (mode_of (cutoff_for k) (resonance_for k) c1) v.excitation_filter t.0 temp2 in
+    let f = svf_process_low (mode_of (cutoff_for k) (resonance_for k) c1) v.excitation_filter t.0 temp2 in
     ret record {
       voice = record { excitation_filter = f.0; resonator = v.resonator; held = h };
       temp = t.0;

@@ -19,21 +19,21 @@ use Rattle.noise.specs.Ahead.{ahead_of}
 use Rattle.noise.specs.Settling.{filtered}
 use Rattle.noise.proofs.OneAhead.{ahead_step, ahead_end}
 use Rattle.modal_voice.specs.declared.modal_voice.LowPass.{LowPass}
-use Rattle.modes.specs.Resonator.{low_block}
+use Rattle.modes.specs.Resonator.{svf_process_low}
 use Rattle.modes.specs.OnePass.{states_of, filters_of, frame_of, one_pass}
 use Rattle.modes.proofs.OnePass.{ran}
 use Rattle.modal_voice.specs.OneLoop.{filter_of}
 
 -- the excitation filter over all frames is its memory's loop
 low_scan : (f : LowPass) (xs ys : List Float)
-    → scan (fill filter_of) f xs ys ≡ (let q = low_block f.mode f.svf xs ys in (record { mode = f.mode; svf = q.0 }, q.1))
-unfolding low_block scan
+    → scan (fill filter_of) f xs ys ≡ (let q = svf_process_low f.mode f.svf xs ys in (record { mode = f.mode; svf = q.0 }, q.1))
+unfolding svf_process_low scan
 low_scan f [] ys = refl
 low_scan f (x ∷ xs) [] = refl
 low_scan f (x ∷ xs) (y ∷ ys) = ap (λ (q : LowPass × List Float). (q.0, (filter_of f x).1 ∷ q.1)) (low_scan (filter_of f x).0 xs ys)
 
 pub settled : (f : LowPass) (xs ys : List Float) {g : LowPass} {zs : List Float} → ◌≡◌ {A = LowPass × List Float} (g, zs) (filtered filter_of f xs ys)
-    → ◌≡◌ {A = ResonatorSvf × List Float} (g.svf, zs) (low_block f.mode f.svf xs ys)
+    → ◌≡◌ {A = ResonatorSvf × List Float} (g.svf, zs) (svf_process_low f.mode f.svf xs ys)
 settled f xs ys e = ap (λ (q : LowPass × List Float). (q.0.svf, q.1)) (e ∙ low_scan f xs ys)
 
 -- ---- a loop over the frames of a block; m is what the modes' coefficients are, states what they keep before it
@@ -84,7 +84,7 @@ module _ (f : LowPass) (m : Modes) (states : States) (temp temp2 out aux : List 
     filled_back : filled ≡ ts
     filled_back = sym (ap (λ (q : LowPass × List Float). q.1) filled_whole)
 
-    pub underway_filtered : ◌≡◌ {A = ResonatorSvf × List Float} (o.filter.svf, ts) (low_block f.mode f.svf temp temp2)
+    pub underway_filtered : ◌≡◌ {A = ResonatorSvf × List Float} (o.filter.svf, ts) (svf_process_low f.mode f.svf temp temp2)
     underway_filtered = settled f temp temp2 filled_whole
 
     pub underway_mixed : us ≡ added ts aux

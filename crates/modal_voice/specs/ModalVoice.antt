@@ -8,7 +8,7 @@ use Rattle.noise.specs.declared.excitation.Knobs.{Knobs}
 use Rattle.noise.specs.declared.excitation.Counts.{Counts}
 use Rattle.noise.specs.Excitation.{raised, dust_frequency, dusted, silence, added}
 use Rattle.modal_voice.specs.declared.modal_voice.ModalVoice.{ModalVoice}
-use Rattle.modes.specs.Resonator.{svf_new, mode_of, low_block, resonator_new, resonator_init, process_of}
+use Rattle.modes.specs.Resonator.{svf_new, mode_of, svf_process_low, resonator_new, resonator_init, resonator_process}
 
 -- ---- ModalVoice::new and init
 
@@ -71,7 +71,7 @@ unfoldable pub excite_of : Knobs → ModalVoice → List Float → List Float �
 excite_of k v temp temp2 aux =
     let cutoff = cutoff_for k in
     counted (excitation k.sustain k v.held cutoff temp) >>= λ t.
-    let f = low_block (mode_of cutoff (resonance_for k) c1) v.excitation_filter t.0 temp2 in
+    let f = svf_process_low (mode_of cutoff (resonance_for k) c1) v.excitation_filter t.0 temp2 in
     ret record {
       voice = record { excitation_filter = f.0; resonator = v.resonator; held = held_after k v.held (length temp) };
       temp = t.0;
@@ -89,7 +89,7 @@ pub record Sounded : Type 0 where
 
 unfoldable pub sound_of : Knobs → ModalVoice → List Float → List Float → Draw Sounded
 sound_of k v temp2 out =
-    let r = process_of v.resonator k.f0 k.structure (raised k.accent k.brightness) (raised k.accent k.damping) temp2 out in
+    let r = resonator_process v.resonator k.f0 k.structure (raised k.accent k.brightness) (raised k.accent k.damping) temp2 out in
     ret record { voice = record { excitation_filter = v.excitation_filter; resonator = r.0; held = v.held }; out = r.1 }
 
 -- ---- ModalVoice::render: what it leaves, the voice and each buffer, and the words that it drew

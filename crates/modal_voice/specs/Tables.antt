@@ -17,7 +17,7 @@ exciter_semitones k = let brightness = raised k.accent k.brightness in (brightne
 abbrev pub strike_semitones : Float → Float
 strike_semitones cutoff = cutoff ⊗ cutoff ⊗ c24
 
--- those of q_sqrt in process_of
+-- those of q_sqrt in resonator_process
 abbrev pub decay_semitones : Float → Float
 decay_semitones damping = damping ⊗ c79·7
 

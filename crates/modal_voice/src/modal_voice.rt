@@ -3,7 +3,7 @@ ghost use Rattle.std.specs.Prelude.{◌≡◌};
 ghost use Rattle.ground.specs.Draw.{ret, run, Ran};
 ghost use Rattle.noise.specs.Excitation.{added};
 ghost use Rattle.noise.specs.Buffers.{IsAlike, IsSame};
-ghost use Rattle.modes.specs.Resonator.{low_block};
+ghost use Rattle.modes.specs.Resonator.{svf_process_low};
 ghost use Rattle.modes.specs.OnePass.{one_pass};
 ghost use Rattle.modal_voice.specs.OneLoop.{filter_of, low_pass_for, Renders};
 ghost use Rattle.modal_voice.specs.ModalVoice.{voice_new, voice_init, cutoff_for, resonance_for, strike_of, clicked, excitation, held_after, excitation_words, excitation_counts, Excited, excite_of, Sounded, sound_of, After, render_of};
@@ -139,7 +139,7 @@ fn frames_in_one(
     b: &mut Buffers,
 ) -> (ResonatorSvf, [Batch; 6])
     requires { IsAlike b.old }
-    ensures filtered { (result.0, b.new.temp_2.now) ≡ low_block filter.mode filter.svf b.old.temp.now b.old.temp_2.now }
+    ensures filtered { (result.0, b.new.temp_2.now) ≡ svf_process_low filter.mode filter.svf b.old.temp.now b.old.temp_2.now }
     ensures mixed { b.new.aux.now ≡ added b.new.temp_2.now b.old.aux.now }
     ensures passed { (result.1, b.new.out.now) ≡ one_pass m.now mode_filters b.new.temp_2.now b.old.out.now }
     ensures temp { b.new.temp.now ≡ b.old.temp.now }

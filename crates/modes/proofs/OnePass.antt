@@ -18,7 +18,7 @@ use Rattle.modes.specs.declared.resonator.Partial.{Partial}
 use Rattle.modes.specs.declared.resonator.Resonator.{Resonator}
 use Rattle.modes.specs.declared.resonator.States.{States}
 use Rattle.modes.specs.declared.resonator.Tuned.{Tuned}
-use Rattle.modes.specs.Resonator.{band_step, mode_at, modes_from, batch_step, in_batches, batches, compensation, loss_of, first_of, process_of}
+use Rattle.modes.specs.Resonator.{band_step, mode_at, modes_from, batch_step, in_batches, batches, nth_harmonic_compensation, q_loss_of, first_of, resonator_process}
 use Rattle.modes.specs.OnePass.{partial_at, tuned, modes_of, modes_for, mode_here, place_first, place_apart, put_batch, no_batch, states_of, batch_at, filters_of, batch_sum, add_batches, frame_of, one_pass}
 use Rattle.modes.proofs.Frame.{FullStates, states_tab, states_written}
 
@@ -116,8 +116,8 @@ pub mapped_length : {X Y : Type 0} (f : X → Y) (xs : List X) (n : ℕ) → len
 mapped_length f xs n e = sym (length-map xs f) ∙ e
 
 pub made : (amps : List Float) (f0 structure brightness damping : Float) {stiffness v q-sqrt loss : Float} {p : Partial} {t : Tuned} {k : Modes}
-    → stiffness ≡ interpolate_of structure → v ≡ compensation 3 stiffness → q-sqrt ≡ semitones_to_ratio (damping ⊗ c79·7)
-    → p ≡ first_of (f0 ⊗ v) stiffness q-sqrt → loss ≡ loss_of structure brightness damping → t ≡ tuned amps (f0 ⊗ v) loss p → k ≡ modes_of t
+    → stiffness ≡ interpolate_of structure → v ≡ nth_harmonic_compensation 3 stiffness → q-sqrt ≡ semitones_to_ratio (damping ⊗ c79·7)
+    → p ≡ first_of (f0 ⊗ v) stiffness q-sqrt → loss ≡ q_loss_of structure brightness damping → t ≡ tuned amps (f0 ⊗ v) loss p → k ≡ modes_of t
     → k ≡ modes_for amps f0 structure brightness damping
 unfolding modes_for
 made amps f0 structure brightness damping es ev eq ep el et ek = rw (ek, et, ep, el, eq, ev, es)
@@ -135,11 +135,11 @@ pub processed : (r : Resonator) (f0 structure brightness damping : Float) (xs ys
     → length r.mode_filters ≡ 6 → k ≡ modes_for r.mode_amplitude f0 structure brightness damping
     → ◌≡◌ {A = List Batch × List Float} (fs, zs) (one_pass k r.mode_filters xs ys)
     → ◌≡◌ {A = Resonator × List Float} (record { mode_amplitude = r.mode_amplitude; mode_filters = fs }, zs)
-    (process_of r f0 structure brightness damping xs ys)
-unfolding modes_for process_of
+    (resonator_process r f0 structure brightness damping xs ys)
+unfolding modes_for resonator_process
 processed r f0 structure brightness damping xs ys h ek e =
-    let f = f0 ⊗ compensation 3 (interpolate_of structure) in
+    let f = f0 ⊗ nth_harmonic_compensation 3 (interpolate_of structure) in
     let first = first_of f (interpolate_of structure) (semitones_to_ratio (damping ⊗ c79·7)) in
     ap (λ (u : List Batch × List Float). (record { mode_amplitude = r.mode_amplitude; mode_filters = u.0 }, u.1))
     (e ∙ ap (λ (k : Modes). one_pass k r.mode_filters xs ys) ek
-    ∙ one_pass_lem f (loss_of structure brightness damping) first r.mode_amplitude r.mode_filters xs ys h)
+    ∙ one_pass_lem f (q_loss_of structure brightness damping) first r.mode_amplitude r.mode_filters xs ys h)

@@ -13,7 +13,7 @@ use Rattle.modes.specs.declared.resonator.Partial.{Partial}
 use Rattle.modes.specs.declared.resonator.Tuned.{Tuned}
 use Rattle.modes.specs.declared.resonator.Modes.{Modes}
 use Rattle.modes.specs.declared.resonator.States.{States}
-use Rattle.modes.specs.Resonator.{mode_of, tick_of, absent, modes_in, next_of, frequency, resonance, amplitude, compensation, loss_of, first_of}
+use Rattle.modes.specs.Resonator.{mode_of, tick_of, absent, modes_in, next_of, frequency, resonance, amplitude, nth_harmonic_compensation, q_loss_of, first_of}
 
 -- ---- the coefficients
 
@@ -49,9 +49,9 @@ modes_of u =
 unfoldable pub modes_for : List Float → Float → Float → Float → Float → Modes
 modes_for amps f0 structure brightness damping =
     let stiffness = interpolate_of structure in
-    let f = f0 ⊗ compensation 3 stiffness in
+    let f = f0 ⊗ nth_harmonic_compensation 3 stiffness in
     let first = first_of f stiffness (semitones_to_ratio (damping ⊗ c79·7)) in
-    modes_of (tuned amps f (loss_of structure brightness damping) first)
+    modes_of (tuned amps f (q_loss_of structure brightness damping) first)
 
 -- ---- what the modes keep
 

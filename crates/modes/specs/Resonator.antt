@@ -43,23 +43,16 @@ mode_step heard x sum k s = let t = tick_of k s x in (sum ⊕ k.gain ⊗ heard t
 abbrev pub through : (Ticked → Float) → List Mode → List ResonatorSvf → Float → Float × List ResonatorSvf
 through heard ks ss x = scan (mode_step heard x) c0 ks ss
 
--- a frame of it, added to the output or put in its place
-abbrev pub adding : (Ticked → Float) → List Mode → List ResonatorSvf → Float → Float → List ResonatorSvf × Float
-adding heard ks ss x y = let u = through heard ks ss x in (u.1, y ⊕ u.0)
-
-abbrev pub replacing : (Ticked → Float) → List Mode → List ResonatorSvf → Float → Float → List ResonatorSvf × Float
-replacing heard ks ss x y = let u = through heard ks ss x in (u.1, u.0)
-
 -- what stands past the end of a list of states
 abbrev pub absent : ResonatorSvf
 absent = record { state_1 = nan; state_2 = nan }
 
 -- ResonatorSvf<1>::process at LowPass, not added
 abbrev pub low_step : Mode → ResonatorSvf → Float → Float → ResonatorSvf × Float
-low_step k s x y = let u = replacing (λ t. t.lp) (k ∷ []) (s ∷ []) x y in (get_or u.0 0 absent, u.1)
+low_step k s x y = let u = through (λ t. t.lp) (k ∷ []) (s ∷ []) x in (get_or u.1 0 absent, u.0)
 
-unfoldable pub low_block : Mode → ResonatorSvf → List Float → List Float → ResonatorSvf × List Float
-low_block k = scan (low_step k)
+unfoldable pub svf_process_low : Mode → ResonatorSvf → List Float → List Float → ResonatorSvf × List Float
+svf_process_low k = scan (low_step k)
 
 -- the modes of ResonatorSvf<4>
 abbrev pub modes_in : Batch → List ResonatorSvf
@@ -70,7 +63,7 @@ batch_of ss = record { mode_0 = get_or ss 0 absent; mode_1 = get_or ss 1 absent;
 
 -- ResonatorSvf<4>::process at BandPass, added
 abbrev pub band_step : List Mode → Batch → Float → Float → Batch × Float
-band_step ks b x y = let u = adding (λ t. t.bp) ks (modes_in b) x y in (batch_of u.0, u.1)
+band_step ks b x y = let u = through (λ t. t.bp) ks (modes_in b) x in (batch_of u.1, y ⊕ u.0)
 
 -- ---- Resonator::new and init
 
@@ -98,8 +91,8 @@ shrunk s = cond (lt s c0) (s ⊗ c0·93) (s ⊗ c0·98)
 abbrev pub compensation_step : Float × Float → Float × Float
 compensation_step u = (u.0 ⊕ u.1, shrunk u.1)
 
-unfoldable pub compensation : ℕ → Float → Float
-compensation n stiffness = c1 ⊘ (after compensation_step (n - 1) (c1, stiffness)).0
+unfoldable pub nth_harmonic_compensation : ℕ → Float → Float
+nth_harmonic_compensation n stiffness = c1 ⊘ (after compensation_step (n - 1) (c1, stiffness)).0
 
 -- where the loop over the modes begins, and from a mode to the next
 unfoldable pub first_of : Float → Float → Float → Partial
@@ -116,8 +109,8 @@ next_of f0 loss p =
     }
 
 -- q_loss, of the brightness that structure and damping lessen
-unfoldable pub loss_of : Float → Float → Float → Float
-loss_of structure brightness damping =
+unfoldable pub q_loss_of : Float → Float → Float → Float
+q_loss_of structure brightness damping =
     let b = brightness ⊗ (c1 ⊖ structure ⊗ c0·3) ⊗ (c1 ⊖ damping ⊗ c0·3) in
     b ⊗ (c2 ⊖ b) ⊗ c0·85 ⊕ c0·15
 
@@ -154,10 +147,10 @@ in_batches amps = tab 6 (λ b. tab 4 (λ k. get_or amps (4 * b + k) nan))
 unfoldable pub batches : Float → Float → Partial → List Float → List Batch → List Float → List Float → List Batch × List Float
 batches f0 loss p amps fs xs ys = let u = scan (batch_step f0 loss xs) (p, ys) (in_batches amps) fs in (u.1, u.0.1)
 
-unfoldable pub process_of : Resonator → Float → Float → Float → Float → List Float → List Float → Resonator × List Float
-process_of r f0 structure brightness damping xs ys =
+unfoldable pub resonator_process : Resonator → Float → Float → Float → Float → List Float → List Float → Resonator × List Float
+resonator_process r f0 structure brightness damping xs ys =
     let stiffness = interpolate_of structure in
-    let f = f0 ⊗ compensation 3 stiffness in
+    let f = f0 ⊗ nth_harmonic_compensation 3 stiffness in
     let first = first_of f stiffness (semitones_to_ratio (damping ⊗ c79·7)) in
-    let u = batches f (loss_of structure brightness damping) first r.mode_amplitude r.mode_filters xs ys in
+    let u = batches f (q_loss_of structure brightness damping) first r.mode_amplitude r.mode_filters xs ys in
     (record { mode_amplitude = r.mode_amplitude; mode_filters = u.0 }, u.1)

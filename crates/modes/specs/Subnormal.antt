@@ -1,11 +1,9 @@
 -- A product that is subnormal as an f32, rounded by sums of f64. Assumes nothing.
-use Rattle.std.specs.Prelude.{Bool, false, ◌&&◌, ◌||◌, cond, ℕ, ◌%◌, eqb, Float}
-use Rattle.std.specs.Float.{binary32, binary64}
+use Rattle.std.specs.Prelude.{Bool, false, ◌&&◌, ◌||◌, cond, ℕ, ◌%◌, eqb, get_or, Float}
+use Rattle.std.specs.Float.{nan, binary32, binary64}
 use Rattle.std.specs.Float.Ieee.{of_bits, add, sub, lt}
 use Rattle.ground.specs.Frames.{over, up_to}
-use Rattle.modes.specs.declared.resonator.ResonatorSvf.{ResonatorSvf}
 use Rattle.modes.specs.declared.resonator.States.{States}
-use Rattle.modes.specs.OnePass.{state_at}
 
 -- 3 * 2^-98: beside it the digits of an f64 end at 2^-149, the least f32
 abbrev pub anchor : Float
@@ -32,12 +30,9 @@ small_minus = of_bits binary32 0x8554ad2e
 unfoldable pub is_small : Float → Bool
 is_small x = lt x small_plus && lt small_minus x
 
--- whether products of what a mode keeps may be, and of what a mode of all keeps
-abbrev pub is_small_mode : ResonatorSvf → Bool
-is_small_mode s = is_small s.state_1 && is_small s.state_2
-
+-- whether a mode of all is small
 abbrev pub any_small : States → Bool
-any_small s = over (λ (b : Bool) (t : ℕ). b || is_small_mode (state_at s t)) false (up_to 24)
+any_small s = over (λ (b : Bool) (t : ℕ). b || is_small (get_or s.state_1 t nan)) false (up_to 24)
 
 -- whether the sample is small, and a mode, as the last 16th frame found it
 unfoldable pub small_at : States → Bool → Float → ℕ → Bool

@@ -2,9 +2,9 @@
 ghost use Rattle.std.specs.Prelude.{◌≡◌, ◌+◌, ◌*◌, ◌-◌, ◌<◌};
 ghost use Rattle.ground.specs.F32.{◌⊗◌};
 ghost use Rattle.ground.specs.Frames.{scan};
-ghost use Rattle.modes.specs.Resonator.{svf_new, mode_of, tick_of, filters_new, resonator_new, resonator_init, cap_of, shrunk, next_of, compensation, first_of, loss_of, process_of};
+ghost use Rattle.modes.specs.Resonator.{svf_new, mode_of, tick_of, filters_new, resonator_new, resonator_init, cap_of, shrunk, next_of, nth_harmonic_compensation, first_of, q_loss_of, resonator_process};
 ghost use Rattle.modes.specs.OnePass.{tuned, mode_here, modes_of, modes_for, place_first, place_apart, put_batch, states_of, state_at, put_state, batch_at, filters_of, mode_in, place_of, batch_sum, add_batches, frame_of};
-ghost use Rattle.modes.specs.Subnormal.{is_small_mode, any_small, small_at};
+ghost use Rattle.modes.specs.Subnormal.{any_small, small_at};
 
 use crate::subnormal::{is_small, product};
 use utils::filter::FrequencyApproximation;
@@ -111,13 +111,6 @@ pub fn mode_of(f: f32, q: f32, gain: f32) -> Mode
     }
 }
 
-// Whether products of what a mode keeps may be subnormal.
-pub fn is_small_mode(s: ResonatorSvf) -> bool
-    ensures { result ≡ is_small_mode s }
-{
-    is_small(s.state_1) & is_small(s.state_2)
-}
-
 // The product of a and b; at SMALL as if it were subnormal.
 pub fn times<const SMALL: bool>(a: f32, b: f32) -> f32
     ensures { result ≡ a ⊗ b }
@@ -180,7 +173,7 @@ fn next_partial(f0: f32, q_loss: f32, p: Partial) -> Partial
 
 fn nth_harmonic_compensation(n: usize, stiffness: f32) -> f32
     requires { 0 < n }
-    ensures { result ≡ compensation n stiffness }
+    ensures { result ≡ nth_harmonic_compensation n stiffness }
 {
     let mut stretch_factor = 1.0f32;
     let mut s = stiffness;
@@ -204,9 +197,9 @@ fn first_partial(f0: f32, stiffness: f32, q_sqrt: f32) -> Partial
 }
 
 // The factor that takes a mode's q to the next one's. The three numbers are parameters of the Rust's `process`, by its names.
-#[tactic(auto, unfolding(crate::specs::Resonator::loss_of))]
+#[tactic(auto, unfolding(crate::specs::Resonator::q_loss_of))]
 fn q_loss_of(structure: f32, brightness: f32, damping: f32) -> f32
-    ensures { result ≡ loss_of structure brightness damping }
+    ensures { result ≡ q_loss_of structure brightness damping }
 {
     let b = brightness * (1.0 - structure * 0.3) * (1.0 - damping * 0.3);
     b * (2.0 - b) * 0.85 + 0.15
@@ -347,13 +340,13 @@ impl States {
         }
     }
 
-    // Whether a mode is small. All are looked at, where `any` would stop at the first, so that no branch stands between them.
+    // Whether a mode is small: it multiplies what it keeps in state_1 alone. All are looked at, where `any` would stop at the first, so that no branch stands between them.
     pub fn any_small(&self) -> bool
         ensures { result ≡ any_small self.now }
     {
         let mut small = false;
         for t in 0..24 {
-            small |= is_small_mode(self.mode_at(t));
+            small |= is_small(self.state_1[t]);
         }
         small
     }
@@ -440,7 +433,7 @@ impl Modes {
     {
         let mut bands = [0.0f32; 24];
         for t in 0..24 {
-            if TESTED && is_small_mode(states.mode_at(t)) {
+            if TESTED && is_small(states.state_1[t]) {
                 self.tick_place::<true>(states, &mut bands, x, t);
             } else {
                 self.tick_place::<false>(states, &mut bands, x, t);
@@ -533,7 +526,7 @@ impl Resonator {
         in_: &[f32],
         out: &mut [f32],
     ) -> Resonator
-        ensures { (result, out.new) ≡ process_of self f0 structure brightness damping in_.now out.old }
+        ensures { (result, out.new) ≡ resonator_process self f0 structure brightness damping in_.now out.old }
     {
         let k = modes_for(self.mode_amplitude, f0, structure, brightness, damping);
         let mut states = States::from(self.mode_filters);

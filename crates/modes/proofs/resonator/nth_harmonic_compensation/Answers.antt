@@ -5,7 +5,7 @@ use lib.Ieee.{Float}
 use Rattle.ground.specs.F32.{◌⊕◌, ◌⊘◌, c1}
 use Rattle.ground.specs.Frames.{after}
 use Rattle.ground.proofs.Frames.{after_turn}
-use Rattle.modes.specs.Resonator.{compensation_step, compensation}
+use Rattle.modes.specs.Resonator.{compensation_step, nth_harmonic_compensation}
 use native.Mathlib.Omega.{arith}
 use Rattle.modes.proofs.resonator.nth_harmonic_compensation.Goals as goal
 
@@ -15,7 +15,7 @@ loop-preserved c =
     after_turn compensation_step l.counter (c1, c.args.stiffness) l.invariant (λ j. (l.stretch_factor ⊕ l.s, c.shrink-s.ensures j))
 
 pub returns : goal.returns
-unfolding compensation
+unfolding nth_harmonic_compensation
 returns c =
     let a = c.args in
     let l = c.loop in
