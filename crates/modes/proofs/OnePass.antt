@@ -19,7 +19,7 @@ use Rattle.modes.specs.declared.resonator.Resonator.{Resonator}
 use Rattle.modes.specs.declared.resonator.States.{States}
 use Rattle.modes.specs.declared.resonator.Tuned.{Tuned}
 use Rattle.modes.specs.Resonator.{band_step, mode_at, modes_from, batch_step, in_batches, batches, nth_harmonic_compensation, q_loss_of, first_of, resonator_process}
-use Rattle.modes.specs.OnePass.{partial_at, tuned, modes_of, modes_for, mode_here, place_first, place_apart, put_batch, no_batch, states_of, batch_at, filters_of, batch_sum, add_batches, frame_of, one_pass}
+use Rattle.modes.specs.OnePass.{partial_at, tuned, modes_of, modes_for, put_batch, no_batch, states_of, batch_at, filters_of, batch_sum, add_batches, frame_of, one_pass}
 use Rattle.modes.proofs.Frame.{FullStates, states_tab, states_written}
 
 -- ---- what the modes keep, in batches and side by side
@@ -27,7 +27,7 @@ use Rattle.modes.proofs.Frame.{FullStates, states_tab, states_written}
 -- the first n batches put to their places
 abbrev pub put_first : List Batch → ℕ → States → States
 put_first fs zero s = s
-put_first fs (suc n) s = put_batch (get_or fs n no_batch) (place_first n) (place_apart n) (put_first fs n s)
+put_first fs (suc n) s = put_batch (get_or fs n no_batch) (4 * n) (put_first fs n s)
 
 pub all_put : (fs : List Batch) → put_first fs 6 (record { state_1 = replicate 24 c0; state_2 = replicate 24 c0 }) ≡ states_of fs
 unfolding states_of put_batch tab
@@ -51,10 +51,10 @@ batched m = tab 6 (λ b. tab 4 (λ k. m (4 * b + k)))
 unfoldable placed : (ℕ → Mode) → Modes
 placed m =
     record {
-      g = tab 24 (λ t. (m (mode_here t)).g);
-      r_plus_g = tab 24 (λ t. (m (mode_here t)).r_plus_g);
-      h = tab 24 (λ t. (m (mode_here t)).h);
-      gain = tab 24 (λ t. (m (mode_here t)).gain);
+      g = tab 24 (λ t. (m t).g);
+      r_plus_g = tab 24 (λ t. (m t).r_plus_g);
+      h = tab 24 (λ t. (m t).h);
+      gain = tab 24 (λ t. (m t).gain);
     }
 
 module _ (m : ℕ → Mode) where

@@ -1,6 +1,5 @@
--- The one-pass form of Resonator::process: the coefficients of all modes first, then each frame through all modes. What belongs to the mode k of the
--- batch b stands at the place 4 k + b for the batches 0 to 3, and at 4 b + k for 4 and 5. Assumes nothing.
-use Rattle.std.specs.Prelude.{cond, List, ℕ, ◌+◌, ◌*◌, ◌/◌, ◌%◌, ltb, get_or, set, replicate, Float}
+-- The one-pass form of Resonator::process: the coefficients of all modes first, then each frame through all modes. Assumes nothing.
+use Rattle.std.specs.Prelude.{List, ℕ, ◌+◌, ◌*◌, ◌/◌, ◌%◌, get_or, set, replicate, Float}
 use Rattle.std.specs.Float.{nan}
 use Rattle.ground.specs.F32.{◌⊕◌, ◌⊗◌, c0, c79·7}
 use Rattle.ground.specs.Frames.{scan, over, up_to, after, tab}
@@ -29,12 +28,8 @@ tuned amps f0 loss p =
       a = tab 24 (λ m. amplitude (get_or amps m nan) (partial_at f0 loss p m));
     }
 
--- the number of the mode at a place, and its coefficients
-abbrev pub mode_here : ℕ → ℕ
-mode_here t = cond (ltb t 16) (4 * (t % 4) + t / 4) t
-
 abbrev pub mode_there : Tuned → ℕ → Mode
-mode_there u t = mode_of (get_or u.f (mode_here t) nan) (get_or u.q (mode_here t) nan) (get_or u.a (mode_here t) nan)
+mode_there u t = mode_of (get_or u.f t nan) (get_or u.q t nan) (get_or u.a t nan)
 
 unfoldable pub modes_of : Tuned → Modes
 modes_of u =
@@ -55,22 +50,15 @@ modes_for amps f0 structure brightness damping =
 
 -- ---- what the modes keep
 
--- the place of a batch's first mode, and how far the next one stands from it
-abbrev pub place_first : ℕ → ℕ
-place_first b = cond (ltb b 4) b (4 * b)
+-- a batch's states put to their places, a the first
+abbrev pub put_four : Float → Float → Float → Float → ℕ → List Float → List Float
+put_four p q r s a xs = set (set (set (set xs a p) (a + 1) q) (a + 2) r) (a + 3) s
 
-abbrev pub place_apart : ℕ → ℕ
-place_apart b = cond (ltb b 4) 4 1
-
--- a batch's states put to their places, a the first and each d from the one before
-abbrev pub put_four : Float → Float → Float → Float → ℕ → ℕ → List Float → List Float
-put_four p q r s a d xs = set (set (set (set xs a p) (a + d) q) (a + 2 * d) r) (a + 3 * d) s
-
-unfoldable pub put_batch : Batch → ℕ → ℕ → States → States
-put_batch f a d s =
+unfoldable pub put_batch : Batch → ℕ → States → States
+put_batch f a s =
     record {
-      state_1 = put_four f.mode_0.state_1 f.mode_1.state_1 f.mode_2.state_1 f.mode_3.state_1 a d s.state_1;
-      state_2 = put_four f.mode_0.state_2 f.mode_1.state_2 f.mode_2.state_2 f.mode_3.state_2 a d s.state_2;
+      state_1 = put_four f.mode_0.state_1 f.mode_1.state_1 f.mode_2.state_1 f.mode_3.state_1 a s.state_1;
+      state_2 = put_four f.mode_0.state_2 f.mode_1.state_2 f.mode_2.state_2 f.mode_3.state_2 a s.state_2;
     }
 
 -- what stands past the end of a list of batches
@@ -81,19 +69,19 @@ no_batch = record { mode_0 = absent; mode_1 = absent; mode_2 = absent; mode_3 = 
 unfoldable pub states_of : List Batch → States
 states_of fs =
     record {
-      state_1 = tab 24 (λ t. (get_or (modes_in (get_or fs (mode_here t / 4) no_batch)) (mode_here t % 4) absent).state_1);
-      state_2 = tab 24 (λ t. (get_or (modes_in (get_or fs (mode_here t / 4) no_batch)) (mode_here t % 4) absent).state_2);
+      state_1 = tab 24 (λ t. (get_or (modes_in (get_or fs (t / 4) no_batch)) (t % 4) absent).state_1);
+      state_2 = tab 24 (λ t. (get_or (modes_in (get_or fs (t / 4) no_batch)) (t % 4) absent).state_2);
     }
 
 -- and back
 abbrev pub state_at : States → ℕ → ResonatorSvf
 state_at s t = record { state_1 = get_or s.state_1 t nan; state_2 = get_or s.state_2 t nan }
 
-unfoldable pub batch_at : States → ℕ → ℕ → Batch
-batch_at s a d = record { mode_0 = state_at s a; mode_1 = state_at s (a + d); mode_2 = state_at s (a + 2 * d); mode_3 = state_at s (a + 3 * d) }
+unfoldable pub batch_at : States → ℕ → Batch
+batch_at s a = record { mode_0 = state_at s a; mode_1 = state_at s (a + 1); mode_2 = state_at s (a + 2); mode_3 = state_at s (a + 3) }
 
 unfoldable pub filters_of : States → List Batch
-filters_of s = tab 6 (λ b. batch_at s (place_first b) (place_apart b))
+filters_of s = tab 6 (λ b. batch_at s (4 * b))
 
 -- what a mode keeps, put to its place
 abbrev pub put_state : ResonatorSvf → ℕ → States → States
@@ -115,12 +103,12 @@ place_of k x b t =
     let o = tick_of m (state_at b.states t) x in
     record { states = put_state o.svf t b.states; bands = set b.bands t (m.gain ⊗ o.bp) }
 
--- the sum of the batch that stands at a and each d on, and all sums added to y in turn
-unfoldable pub batch_sum : List Float → ℕ → ℕ → Float
-batch_sum p a d = c0 ⊕ get_or p a nan ⊕ get_or p (a + d) nan ⊕ get_or p (a + 2 * d) nan ⊕ get_or p (a + 3 * d) nan
+-- the sum of the batch that stands at a, and all sums added to y in turn
+unfoldable pub batch_sum : List Float → ℕ → Float
+batch_sum p a = c0 ⊕ get_or p a nan ⊕ get_or p (a + 1) nan ⊕ get_or p (a + 2) nan ⊕ get_or p (a + 3) nan
 
 unfoldable pub add_batches : Float → List Float → Float
-add_batches y p = y ⊕ batch_sum p 0 4 ⊕ batch_sum p 1 4 ⊕ batch_sum p 2 4 ⊕ batch_sum p 3 4 ⊕ batch_sum p 16 1 ⊕ batch_sum p 20 1
+add_batches y p = y ⊕ batch_sum p 0 ⊕ batch_sum p 4 ⊕ batch_sum p 8 ⊕ batch_sum p 12 ⊕ batch_sum p 16 ⊕ batch_sum p 20
 
 unfoldable pub frame_of : Modes → States → Float → Float → States × Float
 frame_of k s x y =

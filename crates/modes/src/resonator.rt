@@ -3,7 +3,7 @@ ghost use Rattle.std.specs.Prelude.{◌≡◌, ◌+◌, ◌*◌, ◌-◌, ◌<�
 ghost use Rattle.ground.specs.F32.{◌⊗◌};
 ghost use Rattle.ground.specs.Frames.{scan};
 ghost use Rattle.modes.specs.Resonator.{svf_new, mode_of, tick_of, filters_new, resonator_new, resonator_init, cap_of, shrunk, next_of, nth_harmonic_compensation, first_of, q_loss_of, resonator_process};
-ghost use Rattle.modes.specs.OnePass.{tuned, mode_here, modes_of, modes_for, place_first, place_apart, put_batch, states_of, state_at, put_state, batch_at, filters_of, mode_in, place_of, batch_sum, add_batches, frame_of};
+ghost use Rattle.modes.specs.OnePass.{tuned, modes_of, modes_for, put_batch, states_of, state_at, put_state, batch_at, filters_of, mode_in, place_of, batch_sum, add_batches, frame_of};
 ghost use Rattle.modes.specs.Subnormal.{any_small, small_at};
 
 use crate::subnormal::{is_small, product};
@@ -65,8 +65,7 @@ pub struct Tuned {
     pub a: [f32; 24],
 }
 
-// The coefficients of all modes, each at its place: those of the batches 0 to 3 side by side, so that a frame adds four batches at once, and those of 4 and 5 behind them in order.
-// Each coefficient has an array to itself, so that the processor takes four modes at once: tried in C, the same loop over an array of structs takes 2.4 times as long.
+// The coefficients of all modes, each at its number. Each coefficient has an array to itself, so that the processor takes four modes at once: tried in C, the same loop over an array of structs takes 2.4 times as long.
 #[derive(Clone, Copy)]
 pub struct Modes {
     pub g: [f32; 24],
@@ -75,7 +74,7 @@ pub struct Modes {
     pub gain: [f32; 24],
 }
 
-// What all modes keep, at the same places, and in arrays for the same reason.
+// What all modes keep, in arrays for the same reason.
 #[derive(Clone, Copy)]
 pub struct States {
     pub state_1: [f32; 24],
@@ -225,18 +224,7 @@ fn tune(mode_amplitude: [f32; 24], f0: f32, q_loss: f32, first: Partial) -> Tune
     t
 }
 
-// The number of the mode at a place. A place is a counter of a loop up to 24, which a type of its own would wrap and unwrap at each turn.
-fn mode_here(t: usize) -> usize
-    requires { t < 24 }
-    ensures { result ≡ mode_here t }
-{
-    if t < 16 {
-        return 4 * (t % 4) + t / 4;
-    }
-    t
-}
-
-// The coefficients of all modes, each at its place.
+// The coefficients of all modes.
 fn modes_of(t: Tuned) -> Modes
     ensures { result ≡ modes_of t }
 {
@@ -246,10 +234,9 @@ fn modes_of(t: Tuned) -> Modes
         h: [0.0; 24],
         gain: [0.0; 24],
     };
-    // by index: four arrays are written, from another place of three
+    // by index: four arrays are written, and three read
     for i in 0..24 {
-        let m = mode_here(i);
-        let k = mode_of(t.f[m], t.q[m], t.a[m]);
+        let k = mode_of(t.f[i], t.q[i], t.a[i]);
         modes.g[i] = k.g;
         modes.r_plus_g[i] = k.r_plus_g;
         modes.h[i] = k.h;
@@ -279,20 +266,6 @@ pub fn modes_for(
 
 // ---- what the modes keep, in batches and side by side
 
-// Where a batch's modes stand: the place of its first, and how far the next one stands from it.
-fn place_first(b: usize) -> usize
-    requires { b < 6 }
-    ensures { result ≡ place_first b }
-{
-    if b < 4 { b } else { 4 * b }
-}
-
-fn place_apart(b: usize) -> usize
-    ensures { result ≡ place_apart b }
-{
-    if b < 4 { 4 } else { 1 }
-}
-
 impl States {
     // What the mode at a place keeps: a number of each array, which no struct has together.
     fn mode_at(&self, t: usize) -> ResonatorSvf
@@ -314,29 +287,28 @@ impl States {
         self.state_2[t] = mode.state_2;
     }
 
-    // A batch's states to their places, the first of them and each `apart` from the one before. Its modes are fields by name, which no loop goes over.
-    // `first` and `apart` are asked the same in three contracts: a struct of them that promises it would be made, and its promise shown, in each row of `add_batches`.
+    // A batch's states to their places. Its modes are fields by name, which no loop goes over.
     #[tactic(auto, unfolding(crate::specs::OnePass::put_batch))]
-    fn put_batch(&mut self, batch: Batch, first: usize, apart: usize)
-        requires { first + 3 * apart < 24 }
-        ensures { self.new ≡ put_batch batch first apart self.old }
+    fn put_batch(&mut self, batch: Batch, first: usize)
+        requires { first + 3 < 24 }
+        ensures { self.new ≡ put_batch batch first self.old }
     {
         self.put(first, batch.mode_0);
-        self.put(first + apart, batch.mode_1);
-        self.put(first + 2 * apart, batch.mode_2);
-        self.put(first + 3 * apart, batch.mode_3);
+        self.put(first + 1, batch.mode_1);
+        self.put(first + 2, batch.mode_2);
+        self.put(first + 3, batch.mode_3);
     }
 
     #[tactic(auto, unfolding(crate::specs::OnePass::batch_at))]
-    fn batch_at(&self, first: usize, apart: usize) -> Batch
-        requires { first + 3 * apart < 24 }
-        ensures { result ≡ batch_at self.now first apart }
+    fn batch_at(&self, first: usize) -> Batch
+        requires { first + 3 < 24 }
+        ensures { result ≡ batch_at self.now first }
     {
         Batch {
             mode_0: self.mode_at(first),
-            mode_1: self.mode_at(first + apart),
-            mode_2: self.mode_at(first + 2 * apart),
-            mode_3: self.mode_at(first + 3 * apart),
+            mode_1: self.mode_at(first + 1),
+            mode_2: self.mode_at(first + 2),
+            mode_3: self.mode_at(first + 3),
         }
     }
 
@@ -373,7 +345,7 @@ impl From<[Batch; 6]> for States {
             state_2: [0.0; 24],
         };
         for b in 0..6 {
-            states.put_batch(mode_filters[b], place_first(b), place_apart(b));
+            states.put_batch(mode_filters[b], 4 * b);
         }
         states
     }
@@ -386,7 +358,7 @@ impl From<States> for [Batch; 6] {
     fn from(states: States) -> [Batch; 6] {
         let mut mode_filters = cleared();
         for b in 0..6 {
-            mode_filters[b] = states.batch_at(place_first(b), place_apart(b));
+            mode_filters[b] = states.batch_at(4 * b);
         }
         mode_filters
     }
@@ -445,24 +417,24 @@ impl Modes {
 
 // The sum of a batch. Its line shows the order of the four terms, which a loop would not.
 #[tactic(auto, unfolding(crate::specs::OnePass::batch_sum))]
-fn batch_sum(bands: &[f32; 24], first: usize, apart: usize) -> f32
-    requires { first + 3 * apart < 24 }
-    ensures { result ≡ batch_sum bands.now first apart }
+fn batch_sum(bands: &[f32; 24], first: usize) -> f32
+    requires { first + 3 < 24 }
+    ensures { result ≡ batch_sum bands.now first }
 {
-    0.0 + bands[first] + bands[first + apart] + bands[first + 2 * apart] + bands[first + 3 * apart]
+    0.0 + bands[first] + bands[first + 1] + bands[first + 2] + bands[first + 3]
 }
 
-// The sum of each batch, added to y in turn. The six rows are the table of the batches' places, and their order is the order of the sums.
+// The sum of each batch, added to y in turn.
 #[tactic(auto, unfolding(crate::specs::OnePass::add_batches))]
 fn add_batches(y: f32, bands: &[f32; 24]) -> f32
     ensures { result ≡ add_batches y bands.now }
 {
-    y + batch_sum(bands, 0, 4)
-        + batch_sum(bands, 1, 4)
-        + batch_sum(bands, 2, 4)
-        + batch_sum(bands, 3, 4)
-        + batch_sum(bands, 16, 1)
-        + batch_sum(bands, 20, 1)
+    y + batch_sum(bands, 0)
+        + batch_sum(bands, 4)
+        + batch_sum(bands, 8)
+        + batch_sum(bands, 12)
+        + batch_sum(bands, 16)
+        + batch_sum(bands, 20)
 }
 
 // Each frame through all modes, its products as they come.

@@ -1,11 +1,7 @@
 -- `resonator::modes_of` meets its contract, by the law of loops that store a value at each place.
-use mathlib.Core.Path.{◌∙◌, ap}
-use Prim.Native.Nat.{ℕ}
-use lib.ListN.{get_or}
-use lib.Ieee.{nan}
+use mathlib.Core.Path.{ap}
 use Rattle.ground.proofs.Tab.{stored_begin, stored_turn, stored_end}
 use Rattle.modes.specs.declared.resonator.Mode.{Mode}
-use Rattle.modes.specs.Resonator.{mode_of}
 use Rattle.modes.specs.OnePass.{modes_of}
 use native.Mathlib.Omega.{arith}
 use Rattle.modes.proofs.resonator.modes_of.Goals as goal
@@ -16,8 +12,7 @@ loop-i-init c = (stored_begin, stored_begin, stored_begin, stored_begin)
 pub loop-i-preserved : goal.loop-i-preserved
 loop-i-preserved c =
     let l = c.loop-i in
-    let u = c.args.t in
-    let e = c.mode_of-k.ensures ∙ ap (λ (m : ℕ). mode_of (get_or u.f m nan) (get_or u.q m nan) (get_or u.a m nan)) c.mode_here-m.ensures in (
+    let e = c.mode_of-k.ensures in (
       stored_turn l.invariant.0 (omega arith) (ap (λ (k : Mode). k.g) e),
       stored_turn l.invariant.1 (omega arith) (ap (λ (k : Mode). k.r_plus_g) e),
       stored_turn l.invariant.2 (omega arith) (ap (λ (k : Mode). k.h) e),

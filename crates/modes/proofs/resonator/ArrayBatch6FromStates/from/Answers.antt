@@ -1,7 +1,6 @@
 -- `resonator::ArrayBatch6FromStates::from` meets its contract: each batch stands at its number.
-use mathlib.Core.Path.{◌∙◌}
 use Rattle.ground.proofs.Tab.{stored_begin, stored_turn, stored_end}
-use Rattle.modes.specs.OnePass.{batch_at, filters_of}
+use Rattle.modes.specs.OnePass.{filters_of}
 use native.Mathlib.Omega.{arith}
 use Rattle.modes.proofs.resonator.ArrayBatch6FromStates.from.Goals as goal
 
@@ -9,9 +8,7 @@ pub loop-b-init : goal.loop-b-init
 loop-b-init c = stored_begin
 
 pub loop-b-preserved : goal.loop-b-preserved
-loop-b-preserved c =
-    let s = c.args.states in
-    stored_turn c.loop-b.invariant (omega arith) (c.batch_at.ensures ∙ (λ j. batch_at s (c.place_first.ensures j) (c.place_apart.ensures j)))
+loop-b-preserved c = stored_turn c.loop-b.invariant (omega arith) c.batch_at.ensures
 
 pub returns : goal.returns
 unfolding filters_of
