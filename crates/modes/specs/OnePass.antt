@@ -103,6 +103,10 @@ place_of k x b t =
     let o = tick_of m (state_at b.states t) x in
     record { states = put_state o.svf t b.states; bands = set b.bands t (m.gain ⊗ o.bp) }
 
+-- through the four modes of a batch, a the place of its first
+abbrev pub four_of : Modes → Float → Bands → ℕ → Bands
+four_of k x b a = place_of k x (place_of k x (place_of k x (place_of k x b a) (a + 1)) (a + 2)) (a + 3)
+
 -- the sum of the batch that stands at a, and all sums added to y in turn
 unfoldable pub batch_sum : List Float → ℕ → Float
 batch_sum p a = c0 ⊕ get_or p a nan ⊕ get_or p (a + 1) nan ⊕ get_or p (a + 2) nan ⊕ get_or p (a + 3) nan
@@ -112,7 +116,7 @@ add_batches y p = y ⊕ batch_sum p 0 ⊕ batch_sum p 4 ⊕ batch_sum p 8 ⊕ ba
 
 unfoldable pub frame_of : Modes → States → Float → Float → States × Float
 frame_of k s x y =
-    let b = over (place_of k x) (record { states = s; bands = replicate 24 c0 }) (up_to 24) in
+    let b = over (λ (b : Bands) (j : ℕ). four_of k x b (4 * j)) (record { states = s; bands = replicate 24 c0 }) (up_to 6) in
     (b.states, add_batches y b.bands)
 
 unfoldable pub one_pass : Modes → List Batch → List Float → List Float → List Batch × List Float

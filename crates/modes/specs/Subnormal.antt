@@ -1,5 +1,5 @@
 -- A product that is subnormal as an f32, rounded by sums of f64. Assumes nothing.
-use Rattle.std.specs.Prelude.{Bool, false, ◌&&◌, ◌||◌, cond, ℕ, ◌%◌, eqb, get_or, Float}
+use Rattle.std.specs.Prelude.{Bool, false, ◌&&◌, ◌||◌, cond, ℕ, ◌+◌, ◌*◌, get_or, Float}
 use Rattle.std.specs.Float.{nan, binary32, binary64}
 use Rattle.std.specs.Float.Ieee.{of_bits, add, sub, lt}
 use Rattle.ground.specs.Frames.{over, up_to}
@@ -30,10 +30,10 @@ small_minus = of_bits binary32 0x8554ad2e
 unfoldable pub is_small : Float → Bool
 is_small x = lt x small_plus && lt small_minus x
 
--- whether a mode of all is small
-abbrev pub any_small : States → Bool
-any_small s = over (λ (b : Bool) (t : ℕ). b || is_small (get_or s.state_1 t nan)) false (up_to 24)
+-- whether a mode of the batch that stands at a is small, and a mode of all
+unfoldable pub batch_small : States → ℕ → Bool
+batch_small s a =
+    is_small (get_or s.state_1 a nan) || is_small (get_or s.state_1 (a + 1) nan) || is_small (get_or s.state_1 (a + 2) nan) || is_small (get_or s.state_1 (a + 3) nan)
 
--- whether the sample is small, and a mode, as the last 16th frame found it
-unfoldable pub small_at : States → Bool → Float → ℕ → Bool
-small_at s small x i = cond (eqb (i % 16) 0) (is_small x && any_small s) small
+abbrev pub any_small : States → Bool
+any_small s = over (λ (b : Bool) (j : ℕ). b || batch_small s (4 * j)) false (up_to 6)

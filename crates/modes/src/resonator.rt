@@ -3,8 +3,8 @@ ghost use Rattle.std.specs.Prelude.{◌≡◌, ◌+◌, ◌*◌, ◌-◌, ◌<�
 ghost use Rattle.ground.specs.F32.{◌⊗◌};
 ghost use Rattle.ground.specs.Frames.{scan};
 ghost use Rattle.modes.specs.Resonator.{svf_new, mode_of, tick_of, filters_new, resonator_new, resonator_init, cap_of, shrunk, next_of, nth_harmonic_compensation, first_of, q_loss_of, resonator_process};
-ghost use Rattle.modes.specs.OnePass.{tuned, modes_of, modes_for, put_batch, states_of, state_at, put_state, batch_at, filters_of, mode_in, place_of, batch_sum, add_batches, frame_of};
-ghost use Rattle.modes.specs.Subnormal.{any_small, small_at};
+ghost use Rattle.modes.specs.OnePass.{tuned, modes_of, modes_for, put_batch, states_of, state_at, put_state, batch_at, filters_of, mode_in, place_of, four_of, batch_sum, add_batches, frame_of};
+ghost use Rattle.modes.specs.Subnormal.{batch_small, any_small};
 
 use crate::subnormal::{is_small, product};
 use utils::filter::FrequencyApproximation;
@@ -312,24 +312,25 @@ impl States {
         }
     }
 
-    // Whether a mode is small: it multiplies what it keeps in state_1 alone. All are looked at, where `any` would stop at the first, so that no branch stands between them.
+    // Whether a mode of the batch is small: a mode multiplies what it keeps in state_1 alone.
+    #[tactic(auto, unfolding(crate::specs::Subnormal::batch_small))]
+    fn batch_small(&self, first: usize) -> bool
+        requires { first + 3 < 24 }
+        ensures { result ≡ batch_small self.now first }
+    {
+        is_small(self.state_1[first])
+            | is_small(self.state_1[first + 1])
+            | is_small(self.state_1[first + 2])
+            | is_small(self.state_1[first + 3])
+    }
+
+    // Whether a mode is small.
     pub fn any_small(&self) -> bool
         ensures { result ≡ any_small self.now }
     {
         let mut small = false;
-        for t in 0..24 {
-            small |= is_small(self.state_1[t]);
-        }
-        small
-    }
-
-    // Whether the sample is small, and a mode, at each 16th frame; at the others it stands.
-    #[tactic(auto, unfolding(crate::specs::Subnormal::small_at))]
-    fn small_at(&self, small: bool, x: f32, i: usize) -> bool
-        ensures { result ≡ small_at self.now small x i }
-    {
-        if i % 16 == 0 {
-            return is_small(x) && self.any_small();
+        for b in 0..6 {
+            small |= self.batch_small(4 * b);
         }
         small
     }
@@ -398,17 +399,35 @@ impl Modes {
         bands[t] = times::<SMALL>(k.gain, o.bp);
     }
 
-    // A frame: each mode, tested at TESTED, then every sum. The compiler would leave a second call of it a call.
+    // A sample through the modes of a batch.
     #[inline(always)]
-    pub fn frame<const TESTED: bool>(&self, states: &mut States, x: f32, y: f32) -> f32
+    fn tick_batch<const SMALL: bool>(
+        &self,
+        states: &mut States,
+        bands: &mut [f32; 24],
+        x: f32,
+        first: usize,
+    )
+        requires { first + 3 < 24 }
+        ensures { record { states = states.new; bands = bands.new } ≡ four_of self.now x (record { states = states.old; bands = bands.old }) first }
+    {
+        self.tick_place::<SMALL>(states, bands, x, first);
+        self.tick_place::<SMALL>(states, bands, x, first + 1);
+        self.tick_place::<SMALL>(states, bands, x, first + 2);
+        self.tick_place::<SMALL>(states, bands, x, first + 3);
+    }
+
+    // A frame: each batch, at AROUND around subnormal products where one of its modes is small, then every sum. The compiler would leave a second call of it a call.
+    #[inline(always)]
+    pub fn frame<const AROUND: bool>(&self, states: &mut States, x: f32, y: f32) -> f32
         ensures { (states.new, result) ≡ frame_of self.now states.old x y }
     {
         let mut bands = [0.0f32; 24];
-        for t in 0..24 {
-            if TESTED && is_small(states.state_1[t]) {
-                self.tick_place::<true>(states, &mut bands, x, t);
+        for b in 0..6 {
+            if AROUND && states.batch_small(4 * b) {
+                self.tick_batch::<true>(states, &mut bands, x, 4 * b);
             } else {
-                self.tick_place::<false>(states, &mut bands, x, t);
+                self.tick_batch::<false>(states, &mut bands, x, 4 * b);
             }
         }
         add_batches(y, &bands)
@@ -437,29 +456,13 @@ fn add_batches(y: f32, bands: &[f32; 24]) -> f32
         + batch_sum(bands, 20)
 }
 
-// Each frame through all modes, its products as they come.
-fn run_frames(k: &Modes, states: &mut States, in_: &[f32], out: &mut [f32])
+// Each frame through all modes.
+fn run_frames<const AROUND: bool>(k: &Modes, states: &mut States, in_: &[f32], out: &mut [f32])
     ensures { (states.new, out.new) ≡ scan (frame_of k.now) states.old in_.now out.old }
 {
     // by index: a proof knows nothing of what a zip with `iter_mut` wrote
     for i in 0..in_.len().min(out.len()) {
-        out[i] = k.frame::<false>(states, in_[i], out[i]);
-    }
-}
-
-// The same around subnormal products.
-fn run_frames_around(k: &Modes, states: &mut States, in_: &[f32], out: &mut [f32])
-    ensures { (states.new, out.new) ≡ scan (frame_of k.now) states.old in_.now out.old }
-{
-    let mut small = false;
-    // by index, for the same reason
-    for i in 0..in_.len().min(out.len()) {
-        small = states.small_at(small, in_[i], i);
-        out[i] = if small {
-            k.frame::<true>(states, in_[i], out[i])
-        } else {
-            k.frame::<false>(states, in_[i], out[i])
-        };
+        out[i] = k.frame::<AROUND>(states, in_[i], out[i]);
     }
 }
 
@@ -503,9 +506,9 @@ impl Resonator {
         let k = modes_for(self.mode_amplitude, f0, structure, brightness, damping);
         let mut states = States::from(self.mode_filters);
         if around {
-            run_frames_around(&k, &mut states, in_, out);
+            run_frames::<true>(&k, &mut states, in_, out);
         } else {
-            run_frames(&k, &mut states, in_, out);
+            run_frames::<false>(&k, &mut states, in_, out);
         }
         Resonator {
             mode_filters: states.into(),

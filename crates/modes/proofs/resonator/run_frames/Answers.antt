@@ -5,10 +5,10 @@ use native.Mathlib.Omega.{arith}
 use Rattle.modes.proofs.resonator.run_frames.Goals as goal
 
 pub loop-i-init : goal.loop-i-init
-loop-i-init c = frames_begin
+loop-i-init g c = frames_begin
 
 pub loop-i-preserved : goal.loop-i-preserved
-loop-i-preserved c = scan_turn nan nan c.loop-i.invariant (omega arith) c.frame.ensures
+loop-i-preserved g c = scan_turn nan nan c.loop-i.invariant (omega arith) c.frame.ensures
 
 pub returns : goal.returns
-returns c = scan_end c.loop-i.invariant (omega arith)
+returns g c = scan_end c.loop-i.invariant (omega arith)

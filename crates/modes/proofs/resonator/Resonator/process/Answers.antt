@@ -11,6 +11,6 @@ returns c =
     let k = c.modes_for-k.result in
     processed a.self a.f0 a.structure a.brightness a.damping a.in_.now a.out.now (search (mapped_length, rules, c)) c.modes_for-k.ensures
     (ran k a.self.mode_filters a.in_.now a.out.now c.from-states.ensures (elim c.if-around.branch [
-      | then-around w ↦ (λ j. (w.states-is j, w.out-is j)) ∙ w.run_frames_around.ensures
-      | else-around w ↦ (λ j. (w.states-is j, w.out-is j)) ∙ w.run_frames.ensures
+      | then-around w ↦ (λ j. (w.states-is j, w.out-is j)) ∙ w.run_frames.ensures
+      | else-around w ↦ (λ j. (w.states-is j, w.out-is j)) ∙ w.run_frames-else-around.ensures
     ]) c.into.ensures)

@@ -1,7 +1,0 @@
--- `resonator::run_frames_around` meets its contract, by the law of loops over frames.
-use Rattle.ground.proofs.Frames.{Scan}
-use Rattle.modes.specs.OnePass.{frame_of}
-use Rattle.modes.proofs.resonator.run_frames_around.Given as goal
-
-abbrev pub invariant-loop-i : goal.invariant-loop-i
-invariant-loop-i l = Scan (frame_of l.k) l.initial.states l.in_ l.initial.out l.i l.states l.out
