@@ -51,12 +51,14 @@ batch_length : (f0 loss : Float) (xs : List Float) (n : ℕ) (s : Partial × Lis
 unfolding batch_step
 batch_length f0 loss xs n s amps b e = length_scan (band_step (modes_from f0 loss s.0 amps).1) b xs s.1 ∙ e
 
-batches_length : (f0 loss : Float) (p : Partial) (amps : List Float) (fs : List Batch) (xs ys : List Float) → length (batches f0 loss p amps fs xs ys).1 ≡ length ys
+batches_length : (f0 loss : Float) (p : Partial) (amps : List Float) (fs : List Batch) (xs ys : List Float)
+    → length (batches f0 loss p amps fs xs ys).1 ≡ length ys
 unfolding batches
 batches_length f0 loss p amps fs xs ys =
     (scan_keeps (batch_step f0 loss xs) (λ s. length s.1 ≡ length ys) (batch_length f0 loss xs (length ys)) (p, ys) (in_batches amps) fs refl).0
 
-process_length : (r : Resonator) (f0 structure brightness damping : Float) (xs ys : List Float) → length (resonator_process r f0 structure brightness damping xs ys).1 ≡ length ys
+process_length : (r : Resonator) (f0 structure brightness damping : Float) (xs ys : List Float)
+    → length (resonator_process r f0 structure brightness damping xs ys).1 ≡ length ys
 unfolding resonator_process
 process_length r f0 structure brightness damping xs ys = batches_length _ _ _ r.mode_amplitude r.mode_filters xs ys
 

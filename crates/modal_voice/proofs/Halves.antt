@@ -77,7 +77,8 @@ module _ (k : Knobs) (v : ModalVoice) (temp2 out : List Float) where
   unfolding sound_of
   sounded eb ed e =
       rw (← eb, ← ed)
-      (ap (λ (u : Resonator × List Float). ret record { voice = record { excitation_filter = v.excitation_filter; resonator = u.0; held = v.held }; out = u.1 }) (sym e))
+      (ap (λ (u : Resonator × List Float). ret record
+      { voice = record { excitation_filter = v.excitation_filter; resonator = u.0; held = v.held }; out = u.1 }) (sym e))
 
 module _ (k : Knobs) (v : ModalVoice) (temp temp2 out aux : List Float) (word : ℕ) where
   pub rendered : {e r : ModalVoice} {temp' temp2' aux' out' : List Float} {w : ℕ} {n : Counts}
@@ -92,7 +93,8 @@ module _ (k : Knobs) (v : ModalVoice) (temp temp2 out aux : List Float) (word : 
       run_then (excite_of k v temp temp2 aux) _ word ee ∙ run_then (sound_of k e temp2' out) _ w (ap (λ (m : Draw Sounded). run m w) es)
 
   -- the two halves, where their loops were one
-  pub together : {cutoff b d : Float} {f : LowPass} {held : Bool} {w : ℕ} {modes : Modes} {filter : ResonatorSvf} {gs : List Batch} {temp' temp2' aux' out' : List Float} {counts : Counts}
+  pub together : {cutoff b d : Float} {f : LowPass} {held : Bool} {w : ℕ} {modes : Modes} {filter : ResonatorSvf} {gs : List Batch}
+      {temp' temp2' aux' out' : List Float} {counts : Counts}
       → length v.resonator.mode_filters ≡ 6
       → cutoff ≡ cutoff_for k → f ≡ low_pass_for k cutoff v → held ≡ held_after k v.held (length temp)
       → run (excitation k.sustain k v.held cutoff temp) word ≡ record { value = temp'; word = w }

@@ -6,7 +6,8 @@ ghost use Rattle.noise.specs.Buffers.{IsAlike, IsSame};
 ghost use Rattle.modes.specs.Resonator.{svf_process_low};
 ghost use Rattle.modes.specs.OnePass.{one_pass};
 ghost use Rattle.modal_voice.specs.OneLoop.{filter_of, low_pass_for, Renders};
-ghost use Rattle.modal_voice.specs.ModalVoice.{voice_new, voice_init, cutoff_for, resonance_for, strike_of, clicked, excitation, held_after, excitation_words, excitation_counts, Excited, excite_of, Sounded, sound_of, After, render_of};
+ghost use Rattle.modal_voice.specs.ModalVoice.{voice_new, voice_init, cutoff_for, resonance_for, strike_of, clicked, excitation, held_after};
+ghost use Rattle.modal_voice.specs.ModalVoice.{excitation_words, excitation_counts, Excited, excite_of, Sounded, sound_of, After, render_of};
 
 use modes::resonator::{Batch, Mode, Modes, Resonator, ResonatorSvf, States};
 use noise::ahead::{Filter, Passed};
@@ -145,7 +146,7 @@ fn frames_in_one(
     ensures temp { b.new.temp.now ≡ b.old.temp.now }
     ensures same { IsSame b.new b.old }
 {
-    // Each field by itself: a pattern that takes `b` apart leaves two `&mut` before each buffer, and the proof of a call that is lent a `&` of one does not close.
+    // Each field by itself: a pattern that takes `b` apart leaves two `&mut` before each buffer, and the proof of a call that is lent one does not close.
     let temp = &mut *b.temp;
     let temp_2 = &mut *b.temp_2;
     let out = &mut *b.out;

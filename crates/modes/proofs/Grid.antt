@@ -74,7 +74,8 @@ pick_under a b c h = go (ltb a b) (nltb→le a b)
         same : (a b : ℕ) → a ≤ b → b ≤ a → a - b ≡ b - a
         same a b h k = omega arith
 
-opened : (s : Bool) (m : ℕ) (e : ℤ) → sub binary64 (fin s m e) (fin s 3 (negsuc 97)) ≡ sum binary64 s (m * up e * 2 ^ 98) (not s) (3 * 1 * down e) (down e * 2 ^ 98)
+opened : (s : Bool) (m : ℕ) (e : ℤ)
+    → sub binary64 (fin s m e) (fin s 3 (negsuc 97)) ≡ sum binary64 s (m * up e * 2 ^ 98) (not s) (3 * 1 * down e) (down e * 2 ^ 98)
 unfolding sub
 opened s m e = refl
 
@@ -102,7 +103,8 @@ module _ (a d : ℕ) (D : 0 < d) (h : a * 2 ^ 126 < d) where
   parts = closest (a * 2 ^ 149) d
 
   below : a * 2 ^ 149 / d < 2 ^ 23
-  below = (div-lt_iff_lt-mul D).1 (lt_of_le_of_lt (le_of_eq (split a (2 ^ 126) (2 ^ 23) refl)) (lt_of_lt_of_le (mul-lt-mul_of_pos_right h (pow_pos 23)) (le_of_eq (mul_comm d (2 ^ 23)))))
+  below = (div-lt_iff_lt-mul D).1
+      (lt_of_le_of_lt (le_of_eq (split a (2 ^ 126) (2 ^ 23) refl)) (lt_of_lt_of_le (mul-lt-mul_of_pos_right h (pow_pos 23)) (le_of_eq (mul_comm d (2 ^ 23)))))
 
   parts_le : parts ≤ 2 ^ 23
   parts_le = le_trans (nearest-le (a * 2 ^ 149 / d) (compare (a * 2 ^ 149 % d * 2) d)) below
@@ -181,7 +183,8 @@ module _ (a d : ℕ) (D : 0 < d) (h : a * 2 ^ 126 < d) where
   abbrev Left : Bool → Float → Type 0
   Left s w = (t : Bool) × HasValue w t parts (2 ^ 149) × (0 < parts → t ≡ s)
 
-  off_value : (s : Bool) (m : ℕ) (e : ℤ) → m * up e * 2 ^ 1074 ≡ (parts + 2 * (3 * 2 ^ 50)) * 2 ^ 925 * down e → Left s (sub binary64 (fin s m e) (fin s 3 (negsuc 97)))
+  off_value : (s : Bool) (m : ℕ) (e : ℤ) → m * up e * 2 ^ 1074 ≡ (parts + 2 * (3 * 2 ^ 50)) * 2 ^ 925 * down e
+      → Left s (sub binary64 (fin s m e) (fin s 3 (negsuc 97)))
   off_value s m e v =
       let x = m * up e * 2 ^ 98 in
       let y = 3 * 1 * down e in
@@ -194,7 +197,8 @@ module _ (a d : ℕ) (D : 0 < d) (h : a * 2 ^ 126 < d) where
         t,
         subst (λ (z : Float). HasValue z t parts (2 ^ 149))
             (sym (opened s m e ∙ pick s x y c l ∙ round_same binary64 t (x - y) c parts (2 ^ 149) (mul-pos (down_pos e) (pow_pos 98)) (pow_pos 149) r))
-            (round_exact binary64 t parts (2 ^ 149) parts 925 (pow_pos 149) (lt_of_le_of_lt parts_le (lit< tt)) (lt_of_le_of_lt (mul-le-mul_right (2 ^ 925) parts_le) (lit< tt)) (split parts (2 ^ 925) (2 ^ 149) refl)),
+            (round_exact binary64 t parts (2 ^ 149) parts 925 (pow_pos 149) (lt_of_le_of_lt parts_le (lit< tt))
+            (lt_of_le_of_lt (mul-le-mul_right (2 ^ 925) parts_le) (lit< tt)) (split parts (2 ^ 925) (2 ^ 149) refl)),
         λ (g : 0 < parts). whole_test s (ltb y x) (lt→ltb y x (strict x (down e) (parts * down e) o (mul-pos g (down_pos e)))),
       )
     where
@@ -223,7 +227,8 @@ module _ (a d : ℕ) (D : 0 < d) (h : a * 2 ^ 126 < d) where
   to_over s (fin t m e) v =
       ap (λ (b : Bool). add binary64 (fin b m e) (fin s 3 (negsuc 97))) v.0
       ∙ added s m e
-      ∙ round_same binary64 s (m * up e * 2 ^ 98 + 3 * 1 * down e) (down e * 2 ^ 98) over (d * 2 ^ 98) (mul-pos (down_pos e) (pow_pos 98)) (mul-pos D (pow_pos 98))
+      ∙ round_same binary64 s (m * up e * 2 ^ 98 + 3 * 1 * down e) (down e * 2 ^ 98) over (d * 2 ^ 98) (mul-pos (down_pos e) (pow_pos 98))
+      (mul-pos D (pow_pos 98))
       (cross (m * up e) (down e) a d (2 ^ 98) v.1)
     where
       cross : (x f a d u : ℕ) → x * d ≡ a * f → (x * u + 3 * f) * (d * u) ≡ (a * u + 3 * d) * (f * u)
@@ -235,7 +240,8 @@ module _ (a d : ℕ) (D : 0 < d) (h : a * 2 ^ 126 < d) where
   grid_over : (p : Float) → HasValue p false a d → Left false (on_grid p)
   unfolding on_grid of_bits
   grid_over p v =
-      from_over false (add binary64 p (fin false 3 (negsuc 97))) (subst (λ (z : Float). HasValue z false ((parts + 2 * (3 * 2 ^ 50)) * 2 ^ 925) (2 ^ 1074)) (sym (to_over false p v)) (over_value false))
+      from_over false (add binary64 p (fin false 3 (negsuc 97)))
+      (subst (λ (z : Float). HasValue z false ((parts + 2 * (3 * 2 ^ 50)) * 2 ^ 925) (2 ^ 1074)) (sym (to_over false p v)) (over_value false))
 
   -- ---- the same, with the fraction taken from the anchor
   abbrev beneath : ℕ
@@ -261,7 +267,8 @@ module _ (a d : ℕ) (D : 0 < d) (h : a * 2 ^ 126 < d) where
   beneath_parts : closest (beneath * 2 ^ 1074) (d * 2 ^ 98 * 2 ^ 925) ≡ 2 * (3 * 2 ^ 50) - parts
   beneath_parts =
       closest_same (beneath * 2 ^ 1074) (d * 2 ^ 98 * 2 ^ 925) (2 * (3 * 2 ^ 50) * d - a * 2 ^ 149) d (mul-pos (mul-pos D (pow_pos 98)) (pow_pos 925)) D
-      (scale beneath d (2 ^ 98) (2 ^ 51) (2 ^ 925) {t = 2 ^ 1074} refl ∙ ap (λ (z : ℕ). z * (d * 2 ^ 98 * 2 ^ 925)) (sym (rest (a * 2 ^ 98) d (a * 2 ^ 149) (split a (2 ^ 98) (2 ^ 51) refl) small)))
+      (scale beneath d (2 ^ 98) (2 ^ 51) (2 ^ 925) {t = 2 ^ 1074} refl
+      ∙ ap (λ (z : ℕ). z * (d * 2 ^ 98 * 2 ^ 925)) (sym (rest (a * 2 ^ 98) d (a * 2 ^ 149) (split a (2 ^ 98) (2 ^ 51) refl) small)))
       ∙ closest_back (a * 2 ^ 149) (3 * 2 ^ 50) d D (less (a * 2 ^ 98) d (a * 2 ^ 149) (split a (2 ^ 98) (2 ^ 51) refl) small)
     where
       scale : (z d u v w : ℕ) {t : ℕ} → t ≡ v * (u * w) → z * t * d ≡ z * v * (d * u * w)
@@ -279,14 +286,16 @@ module _ (a d : ℕ) (D : 0 < d) (h : a * 2 ^ 126 < d) where
       let q = 2 * (3 * 2 ^ 50) - parts in
       let z : size (n / (d * 2 ^ 98)) - 53 ≡ 925 = ap (λ (x : ℕ). x - 53) beneath_size in
       let e : round binary64 false beneath (d * 2 ^ 98) ≡ units binary64 false q 925 =
-      round_is binary64 false beneath (d * 2 ^ 98) ∙ ap (λ (k : ℕ). core binary64 false n (d * 2 ^ 98) k) z ∙ ap (λ (x : ℕ). units binary64 false x 925) beneath_parts in
+      round_is binary64 false beneath (d * 2 ^ 98) ∙ ap (λ (k : ℕ). core binary64 false n (d * 2 ^ 98) k) z
+      ∙ ap (λ (x : ℕ). units binary64 false x 925) beneath_parts in
       subst (λ (x : Float). HasValue x false (q * 2 ^ 925) (2 ^ 1074)) (sym e)
       (units_val binary64 false q 925 (lt_of_le_of_lt (mul-le-mul_right (2 ^ 925) (bound parts)) (lit< tt)))
     where
       bound : (r : ℕ) → 2 * (3 * 2 ^ 50) - r ≤ 2 ^ 53
       bound r = omega arith
 
-  off_under : (m : ℕ) (e : ℤ) → m * up e * 2 ^ 1074 ≡ (2 * (3 * 2 ^ 50) - parts) * 2 ^ 925 * down e → Left true (sub binary64 (fin false m e) (fin false 3 (negsuc 97)))
+  off_under : (m : ℕ) (e : ℤ) → m * up e * 2 ^ 1074 ≡ (2 * (3 * 2 ^ 50) - parts) * 2 ^ 925 * down e
+      → Left true (sub binary64 (fin false m e) (fin false 3 (negsuc 97)))
   off_under m e v =
       let x = m * up e * 2 ^ 98 in
       let y = 3 * 1 * down e in
@@ -301,7 +310,8 @@ module _ (a d : ℕ) (D : 0 < d) (h : a * 2 ^ 126 < d) where
         t,
         subst (λ (z : Float). HasValue z t parts (2 ^ 149))
             (sym (opened false m e ∙ pick_under x y c l ∙ round_same binary64 t (y - x) c parts (2 ^ 149) (mul-pos (down_pos e) (pow_pos 98)) (pow_pos 149) r))
-            (round_exact binary64 t parts (2 ^ 149) parts 925 (pow_pos 149) (lt_of_le_of_lt parts_le (lit< tt)) (lt_of_le_of_lt (mul-le-mul_right (2 ^ 925) parts_le) (lit< tt)) (split parts (2 ^ 925) (2 ^ 149) refl)),
+            (round_exact binary64 t parts (2 ^ 149) parts 925 (pow_pos 149) (lt_of_le_of_lt parts_le (lit< tt))
+            (lt_of_le_of_lt (mul-le-mul_right (2 ^ 925) parts_le) (lit< tt)) (split parts (2 ^ 925) (2 ^ 149) refl)),
         λ (g : 0 < parts). is_true (ltb x y) (lt→ltb x y (strict x (down e) (parts * down e) o (mul-pos g (down_pos e)))),
       )
     where
@@ -337,7 +347,8 @@ module _ (a d : ℕ) (D : 0 < d) (h : a * 2 ^ 126 < d) where
       (lt_of_lt_of_le (mul-lt-mul_of_pos_right small (down_pos e)) (le_of_eq (mul_comm d (down e))))) in
       ap (λ (b : Bool). add binary64 (fin b m e) (fin false 3 (negsuc 97))) v.0
       ∙ added_under m e (third (x * 2 ^ 98) (down e) l)
-      ∙ round_same binary64 false (3 * 1 * down e - x * 2 ^ 98) (down e * 2 ^ 98) beneath (d * 2 ^ 98) (mul-pos (down_pos e) (pow_pos 98)) (mul-pos D (pow_pos 98))
+      ∙ round_same binary64 false (3 * 1 * down e - x * 2 ^ 98) (down e * 2 ^ 98) beneath (d * 2 ^ 98) (mul-pos (down_pos e) (pow_pos 98))
+      (mul-pos D (pow_pos 98))
       (cross x (down e) a d (2 ^ 98) (3 * 1 * down e - x * 2 ^ 98) beneath v.1 (filled (x * 2 ^ 98) (down e) l) (filled (a * 2 ^ 98) d small))
     where
       third : (x f : ℕ) → x < f → x < 3 * 1 * f
@@ -360,7 +371,8 @@ module _ (a d : ℕ) (D : 0 < d) (h : a * 2 ^ 126 < d) where
   grid_under : (p : Float) → HasValue p true a d → Left true (on_grid p)
   unfolding on_grid of_bits
   grid_under p v =
-      from_under (add binary64 p (fin false 3 (negsuc 97))) (subst (λ (z : Float). HasValue z false ((2 * (3 * 2 ^ 50) - parts) * 2 ^ 925) (2 ^ 1074)) (sym (to_under p v)) beneath_value)
+      from_under (add binary64 p (fin false 3 (negsuc 97)))
+      (subst (λ (z : Float). HasValue z false ((2 * (3 * 2 ^ 50) - parts) * 2 ^ 925) (2 ^ 1074)) (sym (to_under p v)) beneath_value)
 
   grid_value : (s : Bool) (p : Float) → HasValue p s a d → Left s (on_grid p)
   grid_value false p v = grid_over p v
@@ -383,7 +395,8 @@ raised l (negsuc k) h =
 -- what a finite f32 is
 pub held : (s : Bool) (m : ℕ) (e : ℤ) → T (fits binary32 (fin s m e)) → (m < 2 ^ 24) × (down e ≤ 2 ^ 149) × (m * up e < 2 ^ 128 * down e)
 unfolding fits
-held s zero e t = subst (λ (e : ℤ). (0 < 2 ^ 24) × (down e ≤ 2 ^ 149) × (0 * up e < 2 ^ 128 * down e)) (sym (zero_exp binary32 s e t)) (lit< tt, lit≤ tt, lit< tt)
+held s zero e t = subst (λ (e : ℤ). (0 < 2 ^ 24) × (down e ≤ 2 ^ 149) × (0 * up e < 2 ^ 128 * down e)) (sym (zero_exp binary32 s e t))
+    (lit< tt, lit≤ tt, lit< tt)
 held s (suc m) e t =
     let o = eqb (suc m % 2) 1 in
     let p = ltb (suc m) (2 ^ 24) in
@@ -421,7 +434,8 @@ product_value s t m n e g p q =
     let w : m * n * 2 ^ (i.0 + j.0) ≡ m * n * (x * y) = ap (λ (z : ℕ). m * n * z) (pow-add 2 i.0 j.0) in
     round_exact binary64 (unlike s t) (m * up e * (n * up g)) (down e * down g) (m * n) (i.0 + j.0) (mul-pos (down_pos e) (down_pos g))
     (lt_of_le_of_lt (mul-le-mul (le_of_lt a.0) (le_of_lt b.0)) (lit< tt))
-    (lt_of_le_of_lt (le_of_eq (w ∙ mul-mul-mul_comm m n x y)) (lt_of_le_of_lt (mul-le-mul (within m x (up e) (down e) (down_pos e) i.1 a.2) (within n y (up g) (down g) (down_pos g) j.1 b.2)) (lit< tt)))
+    (lt_of_le_of_lt (le_of_eq (w ∙ mul-mul-mul_comm m n x y))
+    (lt_of_le_of_lt (mul-le-mul (within m x (up e) (down e) (down_pos e) i.1 a.2) (within n y (up g) (down g) (down_pos g) j.1 b.2)) (lit< tt)))
     (exact_is m n (up e) (up g) (down e) (down g) x y (2 ^ 537) i.1 j.1 ∙ ap (λ (z : ℕ). z * (down e * down g)) (sym w))
 
 -- ---- what the tests of a product say
@@ -485,7 +499,8 @@ unfolding eq of_bits
 eq_zero nan t n c v h = absurd v
 eq_zero (inf u) t n c v h = absurd v
 eq_zero (fin u m e) t n c v h =
-    let z : m * up e * 1 ≡ 0 * down e = eqb→eq (m * up e * 1) (0 * down e) (subst T (sym (both (eqb (m * up e * 1) (0 * down e)) (beq u false || eqb (m * up e * 1) 0) h).0) tt) in
+    let z : m * up e * 1 ≡ 0 * down e = eqb→eq (m * up e * 1) (0 * down e)
+    (subst T (sym (both (eqb (m * up e * 1) (0 * down e)) (beq u false || eqb (m * up e * 1) 0) h).0) tt) in
     let y : m * up e ≡ 0 = sym (mul-one (m * up e)) ∙ z ∙ zero-mul (down e) in
     nothing n (down e) (down_pos e) (sym v.1 ∙ ap (λ (x : ℕ). x * c) y ∙ zero-mul c)
   where
@@ -600,9 +615,12 @@ module _ (s u : Bool) (m n : ℕ) (e k : ℤ) (p : T (fits binary32 (fin s m e))
       let fo = mul-fits binary32 (fin s m e) (fin u n k) in
       record {
         at_zero = λ (y : eq w zero64 ≡ true) (t : (lt zero64 wide_of || lt wide_of zero64) ≡ true).
-            zero_is wide_of σ (sign_is wide_of σ a d v t) ∙ same_value binary32 (fin σ 0 (pos 0)) short_of σ r (2 ^ 149) (pow_pos 149) (zero_fits σ) fo (zero_value σ r (eq_zero w f.0 r (2 ^ 149) f.1 y)) o;
+            zero_is wide_of σ (sign_is wide_of σ a d v t)
+            ∙ same_value binary32 (fin σ 0 (pos 0)) short_of σ r (2 ^ 149) (pow_pos 149) (zero_fits σ) fo
+            (zero_value σ r (eq_zero w f.0 r (2 ^ 149) f.1 y)) o;
         past_zero = λ (y : eq w zero64 ≡ false).
-            rounded w short_of σ r (grid_fits wide_of) fo (subst (λ (b : Bool). HasValue w b r (2 ^ 149)) (f.2 (eq_not w f.0 r (2 ^ 149) (pow_pos 149) f.1 y)) f.1) o;
+            rounded w short_of σ r (grid_fits wide_of) fo
+            (subst (λ (b : Bool). HasValue w b r (2 ^ 149)) (f.2 (eq_not w f.0 r (2 ^ 149) (pow_pos 149) f.1 y)) f.1) o;
       }
 
 small_product : (x y : Float) → T (fits binary32 x) → T (fits binary32 y) → (lt (mul binary64 x y) least && lt minus_least (mul binary64 x y)) ≡ true

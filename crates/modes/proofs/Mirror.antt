@@ -71,7 +71,8 @@ closest_back x c d D h =
     let y = 2 * c * d - x in
     let o = compare (x % d * 2) d in
     let u = compare (y % d * 2) d in
-    let s : (x / d + y / d) * d + (x % d + y % d) ≡ 2 * c * d = sums ((x / d + y / d) * d) (x / d * d) (y / d * d) (x % d) (y % d) x (2 * c * d) (add-mul (x / d) (y / d) d) (div-add-mod' x d) (div-add-mod' y d) h in
+    let s : (x / d + y / d) * d + (x % d + y % d) ≡ 2 * c * d = sums ((x / d + y / d) * d) (x / d * d) (y / d * d) (x % d) (y % d) x (2 * c * d)
+    (add-mul (x / d) (y / d) d) (div-add-mod' x d) (div-add-mod' y d) h in
     elim (none_or_one (x / d + y / d) (2 * c) (x % d + y % d) d D s (both (x % d) (y % d) d (mod-lt x D) (mod-lt y D))) [
       | inl e ↦ whole (x / d) (y / d) c (x % d) (y % d) d o u (cmp (x % d * 2) d) (cmp (y % d * 2) d) D e.0 e.1
       | inr e ↦ part (x / d) (y / d) c (x % d) (y % d) d o u (cmp (x % d * 2) d) (cmp (y % d * 2) d) e.0 e.1

@@ -85,7 +85,8 @@ module _ (m : ℕ → Mode) where
       → one_pass (placed m) fs xs ys ≡ (let q = scan (block band_step xs) ys (batched m) fs in (q.1, q.0))
   unfolding one_pass
   in_turn fs xs ys h =
-      let a = scan_alike Alike (frame_of (placed m)) (frame band_step (batched m)) alike_frame (states_of fs) fs xs ys (sym (filters_states fs h), states_full fs) in
+      let a = scan_alike Alike (frame_of (placed m)) (frame band_step (batched m)) alike_frame (states_of fs) fs xs ys
+      (sym (filters_states fs h), states_full fs) in
       (λ i. (sym a.0.0 i, a.1 i)) ∙ sym (ap (λ (q : List Float × List Batch). (q.1, q.0)) (exchange band_step (batched m) fs xs ys))
 
 module _ (f0 loss : Float) (p : Partial) (amps : List Float) where

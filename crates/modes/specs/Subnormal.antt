@@ -33,7 +33,8 @@ is_small x = lt x small_plus && lt small_minus x
 -- whether a mode of the batch that stands at a is small, and a mode of all
 unfoldable pub batch_small : States → ℕ → Bool
 batch_small s a =
-    is_small (get_or s.state_1 a nan) || is_small (get_or s.state_1 (a + 1) nan) || is_small (get_or s.state_1 (a + 2) nan) || is_small (get_or s.state_1 (a + 3) nan)
+    let small = λ (t : ℕ). is_small (get_or s.state_1 t nan) in
+    small a || small (a + 1) || small (a + 2) || small (a + 3)
 
 abbrev pub any_small : States → Bool
 any_small s = over (λ (b : Bool) (j : ℕ). b || batch_small s (4 * j)) false (up_to 6)

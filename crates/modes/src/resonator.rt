@@ -2,8 +2,10 @@
 ghost use Rattle.std.specs.Prelude.{◌≡◌, ◌+◌, ◌*◌, ◌-◌, ◌<◌};
 ghost use Rattle.ground.specs.F32.{◌⊗◌};
 ghost use Rattle.ground.specs.Frames.{scan};
-ghost use Rattle.modes.specs.Resonator.{svf_new, mode_of, tick_of, filters_new, resonator_new, resonator_init, cap_of, shrunk, next_of, nth_harmonic_compensation, first_of, q_loss_of, resonator_process};
-ghost use Rattle.modes.specs.OnePass.{tuned, modes_of, modes_for, put_batch, states_of, state_at, put_state, batch_at, filters_of, mode_in, place_of, four_of, batch_sum, add_batches, frame_of};
+ghost use Rattle.modes.specs.Resonator.{svf_new, mode_of, tick_of, filters_new, resonator_new, resonator_init, resonator_process};
+ghost use Rattle.modes.specs.Resonator.{cap_of, shrunk, next_of, nth_harmonic_compensation, first_of, q_loss_of};
+ghost use Rattle.modes.specs.OnePass.{tuned, modes_of, modes_for, put_batch, states_of, state_at, put_state, batch_at, filters_of};
+ghost use Rattle.modes.specs.OnePass.{mode_in, place_of, four_of, batch_sum, add_batches, frame_of};
 ghost use Rattle.modes.specs.Subnormal.{batch_small, any_small};
 
 use crate::subnormal::{is_small, product};
@@ -57,7 +59,7 @@ pub struct Partial {
     pub q: f32,
 }
 
-// The Rust's mode_f, mode_q and mode_a, filled and read one by one: an array of structs would name each of the three as often, where it is filled and where it is read.
+// The Rust's mode_f, mode_q and mode_a. An array of structs would name each of the three as often, where it is filled and where it is read.
 #[derive(Clone, Copy)]
 pub struct Tuned {
     pub f: [f32; 24],
@@ -65,7 +67,8 @@ pub struct Tuned {
     pub a: [f32; 24],
 }
 
-// The coefficients of all modes, each at its number. Each coefficient has an array to itself, so that the processor takes four modes at once: tried in C, the same loop over an array of structs takes 2.4 times as long.
+// The coefficients of all modes, each at its number. Each coefficient has an array to itself, so that the processor takes four modes at once:
+// tried in C, the same loop over an array of structs takes 2.4 times as long.
 #[derive(Clone, Copy)]
 pub struct Modes {
     pub g: [f32; 24],
@@ -417,7 +420,8 @@ impl Modes {
         self.tick_place::<SMALL>(states, bands, x, first + 3);
     }
 
-    // A frame: each batch, at AROUND around subnormal products where one of its modes is small, then every sum. The compiler would leave a second call of it a call.
+    // A frame: each batch, at AROUND around subnormal products where one of its modes is small, then every sum.
+    // The compiler would leave a second call of it a call.
     #[inline(always)]
     pub fn frame<const AROUND: bool>(&self, states: &mut States, x: f32, y: f32) -> f32
         ensures { (states.new, result) ≡ frame_of self.now states.old x y }
@@ -490,7 +494,8 @@ impl Resonator {
         }
     }
 
-    // The six batches in one pass over the frames, `around` subnormal products or not, which changes no bit. The parameters behind it are those of the Rust's `process`.
+    // The six batches in one pass over the frames, `around` subnormal products or not, which changes no bit.
+    // The parameters behind it are those of the Rust's `process`.
     pub fn process(
         self,
         around: bool,

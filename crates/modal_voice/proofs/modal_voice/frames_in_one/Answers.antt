@@ -13,7 +13,8 @@ pub loop-i-preserved : goal.loop-i-preserved
 loop-i-preserved c =
     let a = c.args in
     let b = a.b.now in
-    underway_turn a.filter a.m.now c.from-states.result b.temp.now b.temp_2.now b.out.now b.aux.now c.loop-i.invariant (omega arith) c.on-ahead.ensures c.frame.ensures
+    underway_turn a.filter a.m.now c.from-states.result b.temp.now b.temp_2.now b.out.now b.aux.now c.loop-i.invariant (omega arith) c.on-ahead.ensures
+    c.frame.ensures
 
 pub returns-clause-filtered : goal.returns-clause-filtered
 returns-clause-filtered c =
@@ -31,4 +32,5 @@ pub returns-clause-passed : goal.returns-clause-passed
 returns-clause-passed c =
     let a = c.args in
     let b = a.b.now in
-    underway_passed a.filter a.m.now c.from-states.result b.temp.now b.temp_2.now b.out.now b.aux.now c.loop-i.invariant (omega arith) a.mode_filters c.from-states.ensures c.into.ensures
+    underway_passed a.filter a.m.now c.from-states.result b.temp.now b.temp_2.now b.out.now b.aux.now c.loop-i.invariant (omega arith) a.mode_filters
+    c.from-states.ensures c.into.ensures

@@ -7,4 +7,5 @@ pub returns : goal.returns
 returns c =
     let a = c.args in
     let f = settled c.low_pass.result c.fill_excitation-drawn.new.temp a.temp_2.now c.settle-filter.ensures in
-    excited a.k a.self a.temp.now a.temp_2.now a.aux.now a.word c.cutoff_for-cutoff.ensures c.low_pass.ensures c.held_after-held.ensures c.fill_excitation-drawn.ensures f c.add_into.ensures c.counts_of-counts.ensures
+    excited a.k a.self a.temp.now a.temp_2.now a.aux.now a.word c.cutoff_for-cutoff.ensures c.low_pass.ensures c.held_after-held.ensures
+    c.fill_excitation-drawn.ensures f c.add_into.ensures c.counts_of-counts.ensures

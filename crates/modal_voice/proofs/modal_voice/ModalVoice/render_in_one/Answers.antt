@@ -11,7 +11,8 @@ returns c =
     let f = c.frames_in_one.ensures in
     record {
       all = rw f.temp
-          (together a.k a.self b.temp.now b.temp_2.now b.out.now b.aux.now a.word (search (mapped_length, rules, c)) c.cutoff_for-cutoff.ensures c.low_pass-filter.ensures c.held_after-held.ensures c.fill_excitation-drawn.ensures
+          (together a.k a.self b.temp.now b.temp_2.now b.out.now b.aux.now a.word (search (mapped_length, rules, c)) c.cutoff_for-cutoff.ensures
+          c.low_pass-filter.ensures c.held_after-held.ensures c.fill_excitation-drawn.ensures
           c.raise-brightness.ensures c.raise-damping.ensures c.modes_for-modes.ensures f.filtered f.mixed f.passed c.counts_of-counts.ensures);
       same = record { temp = f.same.temp; temp2 = f.same.temp2; out = f.same.out; aux = f.same.aux };
     }
