@@ -72,8 +72,8 @@ class Room:
         run = subprocess.run(["rt", "check", "--jobs", "1"], cwd=self.crate, stdin=subprocess.DEVNULL, stdout=subprocess.PIPE, stderr=subprocess.STDOUT, text=True)
         return "\n" + run.stdout
 
-    def log_of(self, replacements):
-        """What the check of the crate says with some of its texts replaced; None where the crate is still proved."""
+    def refused(self, replacements):
+        """The functions refused with some texts replaced; None where the crate is still proved."""
         self.lay()
         for file, old, new in replacements:
             text = (self.crate / file).read_text()
@@ -87,16 +87,11 @@ class Room:
             return None
         if "\nlogic=not-proved" not in log and "\nrattle: no verdict" not in log:
             raise Bad("it did not reach the prover:\n" + log[-2000:])
-        return log
+        return self.functions(log)
 
     def functions(self, log):
         """The functions that the prover refuses for themselves, and not for one that they call, also where it does so by a limit of its own, as rt ci counts them."""
         return self.first(set(re.findall(rf"^fn {self.name}::(\S+): (?:not proved(?!; it calls )|no proof(?!: it calls )|could not tell)", log, re.M)))
-
-    def refused(self, replacements):
-        """The functions refused with some texts replaced; None where the crate is still proved."""
-        log = self.log_of(replacements)
-        return None if log is None else self.functions(log)
 
     def first(self, functions):
         """Of some functions those that reach none of the others by calls: a function without a proof of its own is said to have none where a callee has none."""
@@ -112,11 +107,6 @@ class Room:
 
         last = {function: function.split("::")[-1] for function in functions}
         return {f for f in functions if not reached(calls.get(last[f], set()), set()) & set(last.values()) - {last[f]}}
-
-
-def declarations(log):
-    """The theorems and lemmas that have an error of their own, each as its file and its name; one that depends on another is not checked, and has none."""
-    return {f"{file} {name}" for file, name in re.findall(r"^(?:\./)?(\S+\.antt):\d+:\d+: error: `(\S+)`: ", log, re.M)}
 
 
 def proved(names, every):
