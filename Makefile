@@ -1,6 +1,6 @@
 # make render: proves and builds what is not built yet, and renders the example sheet to the folder rendered.
 # make test: the whole gate, whose last line is 'N passed, 0 failed'.
-# make bench: the speed of the leaves, of both voices and of the exported calls beside the Rust's, and of the wrapper's guard beside none, as ratios.
+# make bench: the speed of the leaves, of both voices, of the exported calls and of whole notes beside the Rust's, and of the wrapper's guard beside none, as ratios; PARTS="keyboard" times that alone.
 # make compare: two million blocks of random and extreme lists, in the exported bank and in the Rust.
 # make replay: the recorded answers of the Rust, asked of the exported functions again.
 # make record: the oracle's answers for the program replay, written anew.
@@ -29,7 +29,7 @@ test:
 	@tests/gate
 
 bench: $(libraries)/libleaves_abi.a $(libraries)/libvoices_abi.a $(libraries)/libbank_abi.a
-	@host/cargo run --quiet --profile speed -p bench
+	@host/cargo run --quiet --profile speed -p bench -- $(PARTS)
 
 compare: $(libraries)/libbank_abi.a
 	@host/cargo run --quiet --release -p compare -- --seed 2026 --blocks 2000000

@@ -21,17 +21,39 @@ mod ratio;
 mod run;
 #[cfg(not(any(no_plaits, no_leaves)))]
 mod strings;
+#[cfg(not(any(no_plaits, no_leaves)))]
+mod whole_notes;
+
+/// What is timed, by the names that the command line takes.
+#[cfg(not(any(no_plaits, no_leaves)))]
+const PARTS: [(&str, fn()); 7] = [
+    ("leaves", run::all),
+    ("strings", strings::all),
+    ("modals", modals::all),
+    ("banks", banks::all),
+    ("keyboard", keyboard::all),
+    ("whole_notes", whole_notes::all),
+    ("guard", guard::all),
+];
 
 #[cfg(not(any(no_plaits, no_leaves)))]
 fn main() -> ExitCode {
+    let asked: Vec<String> = std::env::args().skip(1).collect();
+    let names = PARTS.map(|(name, _)| name);
+    if let Some(unknown) = asked.iter().find(|name| !names.contains(&name.as_str())) {
+        eprintln!(
+            "bench: there is no part {unknown}: name some of {}, or none for all",
+            names.join(", ")
+        );
+        return ExitCode::from(2);
+    }
     let slow = if bleidhvan::slow_subnormals() { "yes" } else { "no" };
     println!("subnormal products are slow on this processor: {slow}");
-    run::all();
-    strings::all();
-    modals::all();
-    banks::all();
-    keyboard::all();
-    guard::all();
+    for (name, part) in PARTS {
+        if asked.is_empty() || asked.iter().any(|it| it == name) {
+            part();
+        }
+    }
     ExitCode::SUCCESS
 }
 
