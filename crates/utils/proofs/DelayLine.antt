@@ -9,7 +9,7 @@ use lib.Ieee.{Float}
 use Rattle.ground.specs.declared.floats.Parts.{Parts}
 use Rattle.ground.specs.Floats.{whole_part, fraction_of, split_of}
 use Rattle.utils.specs.Utils.{crossfade_of}
-use Rattle.utils.specs.DelayLine.{tap, linear_of, cubic_of, read_frac, read_hermite}
+use Rattle.utils.specs.DelayLine.{tap, cubic_of, read_frac, read_hermite}
 
 module _ (line : List Float) where
   -- t has the delay taken round, where u has the whole delay
@@ -24,7 +24,7 @@ module _ (line : List Float) where
   pub read_frac_lem : (at : ℕ) (p : Parts) (delay a b r : Float) → p ≡ split_of delay
       → a ≡ tap line (at + p.integral % length line) → b ≡ tap line (at + p.integral % length line + 1) → r ≡ crossfade_of a b p.fractional
       → r ≡ read_frac line at delay
-  unfolding read_frac linear_of crossfade_of
+  unfolding read_frac
   read_frac_lem at p delay a b r pe ae be e =
       let d = p.integral in
       let t = at + d % length line in

@@ -9,7 +9,7 @@ use Rattle.ground.specs.Frames.{scan}
 unfoldable pub with_coefficient : CosineOscillator → Float → Float → CosineOscillator
 with_coefficient o sign f =
     let k = sign ⊗ f ⊗ (c1 ⊖ c2 ⊗ f) in
-    record { y1 = o.y1; y0 = o.y0; iir_coefficient = k; initial_amplitude = k ⊗ c0·25 }
+    record o { iir_coefficient = k; initial_amplitude = k ⊗ c0·25 }
 
 -- init_approximate
 unfoldable pub approximate : CosineOscillator → Float → CosineOscillator
@@ -19,13 +19,7 @@ approximate o frequency =
 
 -- start
 unfoldable pub started : CosineOscillator → CosineOscillator
-started o =
-    record {
-      y1 = o.initial_amplitude;
-      y0 = c0·5;
-      iir_coefficient = o.iir_coefficient;
-      initial_amplitude = o.initial_amplitude;
-    }
+started o = record o { y1 = o.initial_amplitude; y0 = c0·5 }
 
 -- new, then init(frequency, Approximate)
 unfoldable pub osc_init : Float → CosineOscillator
@@ -33,15 +27,7 @@ osc_init frequency = started (approximate (record { y1 = c0; y0 = c0; iir_coeffi
 
 -- next
 unfoldable pub osc_next : CosineOscillator → CosineOscillator × Float
-osc_next o = (
-  record {
-    y1 = o.y0;
-    y0 = o.iir_coefficient ⊗ o.y0 ⊖ o.y1;
-    iir_coefficient = o.iir_coefficient;
-    initial_amplitude = o.initial_amplitude;
-  },
-  o.y0 ⊕ c0·5,
-)
+osc_next o = (record o { y1 = o.y0; y0 = o.iir_coefficient ⊗ o.y0 ⊖ o.y1 }, o.y0 ⊕ c0·5)
 
 -- Resonator::init: an amplitude a mode, 24 of them
 abbrev pub amplitude_step : CosineOscillator → Float → Float → CosineOscillator × Float

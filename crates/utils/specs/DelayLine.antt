@@ -5,6 +5,7 @@ use Rattle.std.specs.Float.Ieee.{neg}
 use Rattle.utils.specs.declared.delay_line.AllpassOut.{AllpassOut}
 use Rattle.ground.specs.F32.{◌⊕◌, ◌⊖◌, ◌⊗◌, c0, c0·5}
 use Rattle.ground.specs.Floats.{whole_part, fraction_of}
+use Rattle.utils.specs.Utils.{crossfade_of}
 
 -- what stands at an index taken round the line
 unfoldable pub tap : List Float → ℕ → Float
@@ -26,10 +27,6 @@ allpass_of line at sample delay coefficient =
     let next = written line at write in
     (record { out = neg write ⊗ coefficient ⊕ read; write_ptr = next.0 }, next.1)
 
--- what read_with_delay_frac makes of two neighbours
-unfoldable pub linear_of : Float → Float → Float → Float
-linear_of a b f = a ⊕ (b ⊖ a) ⊗ f
-
 -- what read_hermite makes of four neighbours
 unfoldable pub cubic_of : Float → Float → Float → Float → Float → Float
 cubic_of xm1 x0 x1 x2 f =
@@ -44,7 +41,7 @@ cubic_of xm1 x0 x1 x2 f =
 unfoldable pub read_frac : List Float → ℕ → Float → Float
 read_frac line at delay =
     let t = at + whole_part delay in
-    linear_of (tap line t) (tap line (t + 1)) (fraction_of delay)
+    crossfade_of (tap line t) (tap line (t + 1)) (fraction_of delay)
 
 -- read_hermite
 unfoldable pub read_hermite : List Float → ℕ → Float → Float

@@ -51,7 +51,7 @@ dc_init pole = record { pole = pole; x = c0; y = c0 }
 
 -- process, of one sample
 unfoldable pub dc_of : DcBlocker → Float → DcBlocker
-dc_of d x = record { pole = d.pole; x = x; y = d.y ⊗ d.pole ⊕ x ⊖ d.x }
+dc_of d x = record d { x = x; y = d.y ⊗ d.pole ⊕ x ⊖ d.x }
 
 -- process: in place, so that the input is the buffer itself
 abbrev pub dc_step : DcBlocker → Float → Float → DcBlocker × Float
@@ -68,14 +68,14 @@ svf_new = record { g = c0; r = c0; h = c0; state_1 = c0; state_2 = c0 }
 
 -- reset
 unfoldable pub svf_reset : Svf → Svf
-svf_reset s = record { g = s.g; r = s.r; h = s.h; state_1 = c0; state_2 = c0 }
+svf_reset s = record s { state_1 = c0; state_2 = c0 }
 
 -- set_f_q
 unfoldable pub svf_setFQ : Svf → Float → Float → FrequencyApproximation → Svf
 svf_setFQ s f resonance approximation =
     let g = tan_of approximation f in
     let r = c1 ⊘ resonance in
-    record { g = g; r = r; h = c1 ⊘ (c1 ⊕ r ⊗ g ⊕ g ⊗ g); state_1 = s.state_1; state_2 = s.state_2 }
+    record s { g = g; r = r; h = c1 ⊘ (c1 ⊕ r ⊗ g ⊕ g ⊗ g) }
 
 -- init
 unfoldable pub svf_init : Svf → Svf
@@ -87,7 +87,7 @@ svf_of s x =
     let hp = (x ⊖ s.r ⊗ s.state_1 ⊖ s.g ⊗ s.state_1 ⊖ s.state_2) ⊗ s.h in
     let bp = s.g ⊗ hp ⊕ s.state_1 in
     let lp = s.g ⊗ bp ⊕ s.state_2 in
-    (record { g = s.g; r = s.r; h = s.h; state_1 = s.g ⊗ hp ⊕ bp; state_2 = s.g ⊗ bp ⊕ lp }, lp)
+    (record s { state_1 = s.g ⊗ hp ⊕ bp; state_2 = s.g ⊗ bp ⊕ lp }, lp)
 
 -- process_buffer, at FilterMode::LowPass: the frames of the zipped buffers
 abbrev pub svf_step : Svf → Float → Float → Svf × Float

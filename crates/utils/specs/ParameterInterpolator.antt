@@ -11,7 +11,7 @@ interpolator_of state new size = record { value = state; increment = (new ⊖ st
 
 -- next
 unfoldable pub next_of : ParameterInterpolator → ParameterInterpolator
-next_of p = record { value = p.value ⊕ p.increment; increment = p.increment }
+next_of p = record p { value = p.value ⊕ p.increment }
 
 -- the value after k calls of next: the old value with each increment taken added in turn, never the target (01 'Filters, lines and tables')
 abbrev pub taken : ℕ → Float → Float → Float

@@ -5,15 +5,6 @@ use Rattle.resources.specs.Stiffness.{stiffness}
 use Rattle.ground.specs.F32.{◌⊕◌, ◌⊖◌, ◌⊗◌, c0, c1, c2, c64}
 use Rattle.ground.specs.Floats.{whole_part, fraction_of, clamp_f}
 
--- interpolate(&LUT_STIFFNESS, index, 64.0), and 2.0 at index 1, where the Rust reads entry 65 of 65 and halts (01 'Filters, lines and tables')
-unfoldable pub interpolate_of : Float → Float
-interpolate_of index =
-    let x = clamp_f index c0 c1 ⊗ c64 in
-    let i = whole_part x in
-    let a = entry stiffness i in
-    let b = entry stiffness (i + 1) in
-    cond (leb 64 i) c2 (a ⊕ (b ⊖ a) ⊗ fraction_of x)
-
 -- one_pole: the new out
 unfoldable pub one_pole : Float → Float → Float → Float
 one_pole out x coefficient = out ⊕ coefficient ⊗ (x ⊖ out)
@@ -21,3 +12,10 @@ one_pole out x coefficient = out ⊕ coefficient ⊗ (x ⊖ out)
 -- crossfade
 unfoldable pub crossfade_of : Float → Float → Float → Float
 crossfade_of a b fade = a ⊕ (b ⊖ a) ⊗ fade
+
+-- interpolate(&LUT_STIFFNESS, index, 64.0), and 2.0 at index 1, where the Rust reads entry 65 of 65 and halts (01 'Filters, lines and tables')
+unfoldable pub interpolate_of : Float → Float
+interpolate_of index =
+    let x = clamp_f index c0 c1 ⊗ c64 in
+    let i = whole_part x in
+    cond (leb 64 i) c2 (crossfade_of (entry stiffness i) (entry stiffness (i + 1)) (fraction_of x))

@@ -11,7 +11,7 @@ use Rattle.ground.specs.Random.{word_float, float_of, noise_of}
 use Rattle.ground.specs.Floats.{whole_part, fraction_of, clamp_f}
 use Rattle.utils.specs.DelayLine.{tap, written, cubic_of, read_hermite, allpass_of}
 use Rattle.utils.specs.Units.{high_index, low_index, semitones_to_ratio}
-use Rattle.utils.specs.Utils.{interpolate_of}
+use Rattle.utils.specs.Utils.{crossfade_of, interpolate_of}
 
 -- Word after 33 (0x21): 1068833548; its noise value 2u - 1 is -4213477/8388608.
 pub word_after_33 : next 33 ≡ 1068833548
@@ -96,9 +96,9 @@ semitones_12 = refl
 
 -- Structure 0.25 and 1: stiffness 0 and 2.
 pub stiffness_at_0·25 : interpolate_of c0·25 ≡ c0
-unfolding interpolate_of stiffness clamp_f whole_part fraction_of of_bits of_int to_unsigned le lt add sub mul
+unfolding interpolate_of crossfade_of stiffness clamp_f whole_part fraction_of of_bits of_int to_unsigned le lt add sub mul
 stiffness_at_0·25 = refl
 
 pub stiffness_at_1 : interpolate_of c1 ≡ c2
-unfolding interpolate_of stiffness clamp_f whole_part fraction_of of_bits of_int to_unsigned le lt add sub mul
+unfolding interpolate_of crossfade_of stiffness clamp_f whole_part fraction_of of_bits of_int to_unsigned le lt add sub mul
 stiffness_at_1 = refl

@@ -11,7 +11,7 @@ pub mod parameter_interpolator;
 pub mod units;
 
 // `interpolate` over the stiffness table of 65, whose size is 64: an index of 1 gives the last entry.
-#[tactic(auto, unfolding(crate::specs::Utils::interpolate_of, crate::specs::Utils::crossfade_of))]
+#[tactic(auto, unfolding(crate::specs::Utils::interpolate_of))]
 pub fn interpolate(index: f32) -> f32
     ensures { result ≡ interpolate_of index }
 {
