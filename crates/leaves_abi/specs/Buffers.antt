@@ -1,11 +1,12 @@
 -- The leaves over buffers: each frame's output is the leaf of its input. Assumes nothing.
 use Rattle.std.specs.Prelude.{cond, List, ℕ, leb, ltb, length, Float}
-use Rattle.ground.specs.Draw.{Draw, ret, ask, ◌>>=◌}
+use Rattle.ground.specs.Draw.{Draw, ret, ask}
 use Rattle.ground.specs.Random.{float_of}
+use Rattle.noise.specs.Excitation.{filled}
 use Rattle.utils.specs.Units.{semitones_to_ratio}
 use Rattle.utils.specs.DelayLine.{read_hermite}
 use Rattle.utils.specs.Filter.{svf_new, svf_setFQ, svf_buffer}
-use Rattle.ground.specs.Frames.{frames, scan}
+use Rattle.ground.specs.Frames.{scan}
 use Rattle.ground.specs.Part.{part}
 use Rattle.utils.specs.declared.filter.FrequencyApproximation.TheVariants.{Dirty}
 
@@ -20,11 +21,11 @@ abbrev pub filtered : Float → Float → List Float → List Float → Float ×
 filtered f q xs ys = let r = svf_buffer (svf_setFQ svf_new f q Dirty) xs ys in (r.0.state_2, r.1)
 
 -- a word a frame, and its float
-abbrev pub float_step : Unit {0} → Float → Float → Draw (Unit {0} × Float)
-float_step s x y = ask (λ w. ret (s, float_of w))
+abbrev pub drawn_float : Draw Float
+drawn_float = ask (λ w. ret (float_of w))
 
 abbrev pub drawn_floats : List Float → Draw (List Float)
-drawn_floats ys = frames float_step tt ys ys >>= λ q. ret q.1
+drawn_floats ys = filled drawn_float ys ys
 
 abbrev pub ratios_of : List Float → List Float → List Float
 ratios_of = mapped semitones_to_ratio

@@ -13,12 +13,19 @@ raised accent x = x ⊕ c0·25 ⊗ accent ⊗ (c1 ⊖ x)
 unfoldable pub dust_frequency : Float → Float
 dust_frequency brightness = let density = brightness ⊗ brightness in c0·00005 ⊕ c0·99995 ⊗ density ⊗ density
 
+-- a draw in each frame that both lists have, whatever stands there
+abbrev pub fill_step : Draw Float → Unit {0} → Float → Float → Draw (Unit {0} × Float)
+fill_step d s x y = d >>= λ u. ret (s, u)
+
+abbrev pub filled : Draw Float → List Float → List Float → Draw (List Float)
+filled d xs ys = frames (fill_step d) tt xs ys >>= λ q. ret q.1
+
 -- a sample of dust in every frame, at a gain
-abbrev pub dust_step : Float → Float → Float → Unit {0} → Float → Float → Draw (Unit {0} × Float)
-dust_step f gain accent s x y = dust_of f >>= λ u. ret (s, u ⊗ gain ⊗ accent)
+abbrev pub dust_sample : Float → Float → Float → Draw Float
+dust_sample f gain accent = dust_of f >>= λ u. ret (u ⊗ gain ⊗ accent)
 
 unfoldable pub dusted : Float → Float → Float → List Float → Draw (List Float)
-dusted f gain accent temp = frames (dust_step f gain accent) tt temp temp >>= λ q. ret q.1
+dusted f gain accent temp = filled (dust_sample f gain accent) temp temp
 
 -- without sustain a buffer begins with silence
 abbrev pub silence : List Float → List Float

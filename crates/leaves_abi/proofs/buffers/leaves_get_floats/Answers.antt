@@ -7,10 +7,11 @@ use lib.Ieee.{Float, nan}
 use Rattle.ground.specs.Draw.{ret, next, run}
 use Rattle.ground.specs.Random.{float_of}
 use Rattle.ground.proofs.Frames.{frames_begin, frames_turn, frames_then}
-use Rattle.leaves_abi.specs.Buffers.{float_step}
+use Rattle.noise.specs.Excitation.{fill_step}
+use Rattle.leaves_abi.specs.Buffers.{drawn_float}
 use Rattle.leaves_abi.proofs.buffers.leaves_get_floats.Goals as goal
 
-drew : (w v : ℕ) (u y x : Float) → v ≡ next w → u ≡ float_of v → run (float_step tt x y) w ≡ record { value = (tt, u); word = v }
+drew : (w v : ℕ) (u y x : Float) → v ≡ next w → u ≡ float_of v → run (fill_step drawn_float tt x y) w ≡ record { value = (tt, u); word = v }
 drew w v u y x e f = rw (f, e)
 
 pub loop-u-init : goal.loop-u-init
