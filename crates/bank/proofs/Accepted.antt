@@ -9,9 +9,12 @@ use lib.ListN.{length, get_or}
 use lib.Ieee.{Float}
 use borrow.Author.Tests.{eqb-true, eqb-false, ltb-false, leb-false, not-false}
 use Rattle.std.specs.Prelude.{Result, Ok}
+use Rattle.ground.specs.Each.{Each}
 use Rattle.ground.proofs.Bools.{or_false, and_true}
 use Rattle.noise.specs.declared.excitation.Knobs.{Knobs}
 use Rattle.noise.specs.Excitation.{Alike}
+use Rattle.waveguide.specs.String.{string_new}
+use Rattle.string_voice.specs.StringVoice as string_voice
 use Rattle.slots.specs.declared.answers.Reason.{Reason}
 use Rattle.slots.specs.declared.answers.Reason.TheVariants as R
 use Rattle.slots.specs.declared.slots.Slot.{Slot}
@@ -22,11 +25,15 @@ use Rattle.slots.specs.Table.{Call, Check, ◌⇐◌, first, alike, checks, knob
 use Rattle.bank.specs.World.{Ready}
 use Rattle.bank.proofs.Moves.{decided}
 
--- a check of a call that is accepted does not apply
+-- a check of a call that is accepted does not apply, and none of them does
 pub spared : (r : Reason) (b : Bool) (cs : List Check) → first (r ⇐ b ∷ cs) ≡ Ok tt → (b ≡ false) × (first cs ≡ Ok tt)
 unfolding first
 spared r true cs e = let z : ◌≡◌ {A = ℕ} 0 1 = cc in absurd (omega arith)
 spared r false cs e = (refl, e)
+
+pub all_spared : (cs : List Check) → first cs ≡ Ok tt → Each (λ c. c.applies ≡ false) cs
+all_spared [] e = tt
+all_spared (c ∷ cs) e = let p = spared c.reason c.applies cs e in (p.0, all_spared cs p.1)
 
 -- no slot is bad, and neither is what stands past the end
 none_bad : (l : List Slot) (i : ℕ) (d : Slot) → bad_slot d ≡ false → bad_slots l ≡ false → bad_slot (get_or l i d) ≡ false
@@ -36,7 +43,7 @@ none_bad (x ∷ xs) zero d h e = (or_false (bad_slot x) (bad_slots xs) e).0
 none_bad (x ∷ xs) (suc i) d h e = none_bad xs i d h (or_false (bad_slot x) (bad_slots xs) e).1
 
 empty_good : bad_slot empty_slot ≡ false
-unfolding bad_slot empty_slot no_string
+unfolding bad_slot empty_slot no_string string_voice.voice_new string_new
 empty_good = refl
 
 -- what number 1 leaves of a slot
@@ -112,12 +119,10 @@ asked kind (suc k) rate e = omega arith
 
 -- what the checks of a render leave: its slot is not empty, and its buffers have one length, of at most 4,096
 module _ (kind : ℕ) (k : Knobs) (u : Bufs) (e : first (checks kind (render k u)) ≡ Ok tt) where
-  not_empty : (eqb kind 0 ≡ false) × (first (R.Lengths ⇐ not (alike u) ∷ R.TooLong ⇐ ltb 4096 (length u.temp) ∷ knob_checks k) ≡ Ok tt)
+  -- of each in turn: the slot, the lengths, the longest block, and the five knobs
+  pub render_spared : Each (λ c. c.applies ≡ false) (R.Empty ⇐ eqb kind 0 ∷ R.Lengths ⇐ not (alike u) ∷ R.TooLong ⇐ ltb 4096 (length u.temp) ∷ knob_checks k)
   unfolding checks
-  not_empty = spared R.Empty (eqb kind 0) (R.Lengths ⇐ not (alike u) ∷ R.TooLong ⇐ ltb 4096 (length u.temp) ∷ knob_checks k) e
-
-  alike_checked : (not (alike u) ≡ false) × (first (R.TooLong ⇐ ltb 4096 (length u.temp) ∷ knob_checks k) ≡ Ok tt)
-  alike_checked = spared R.Lengths (not (alike u)) (R.TooLong ⇐ ltb 4096 (length u.temp) ∷ knob_checks k) not_empty.1
+  render_spared = all_spared (checks kind (render k u)) e
 
   pub alike_lent : Alike u.temp u.temp2 u.out u.aux
   unfolding alike
@@ -126,7 +131,7 @@ module _ (kind : ℕ) (k : Knobs) (u : Bufs) (e : first (checks kind (render k u
       let t2 = eqb (length u.temp2) n in
       let o = eqb (length u.out) n in
       let a = eqb (length u.aux) n in
-      let l = and_true (t2 && o) a (not-false (alike u) alike_checked.0) in
+      let l = and_true (t2 && o) a (not-false (alike u) render_spared.1.0) in
       let m = and_true t2 o l.0 in
       record {
         temp2_is = eqb-true (length u.temp2) n m.0;
@@ -137,10 +142,10 @@ module _ (kind : ℕ) (k : Knobs) (u : Bufs) (e : first (checks kind (render k u
   short : length u.out ≤ 4096
   short =
       let n = length u.temp in
-      let h : n ≤ 4096 = ltb-false 4096 n (spared R.TooLong (ltb 4096 n) (knob_checks k) alike_checked.1).0 in
+      let h : n ≤ 4096 = ltb-false 4096 n render_spared.1.1.0 in
       omega (arith, alike_lent.out_is, h)
 
   pub ready : (x : Slot) (mem : List Float) (slot : ℕ) → x.kind ≡ kind → Sound x → length mem ≡ 10240 → slot < 8 → Ready x mem slot u.out
   ready x mem slot ek s size in8 =
-      let full : kind ≡ 0 → ⊥ = eqb-false kind 0 not_empty.0 in
+      let full : kind ≡ 0 → ⊥ = eqb-false kind 0 render_spared.0 in
       record { full = omega arith; known = s.known; voice = record { slot_within = in8; size = size; string = s.string; stretch = s.stretch; short = short } }

@@ -20,7 +20,7 @@ use Rattle.slots.specs.declared.answers.Reason.{Reason}
 use Rattle.slots.specs.declared.slots.Slot.{Slot}
 use Rattle.slots.specs.declared.slots.Bank.{Bank}
 use Rattle.slots.specs.Answers.{no_counts}
-use Rattle.slots.specs.Slots.{slot_at, with_slot, opened_on}
+use Rattle.slots.specs.Slots.{slot_at, with_slot, opened}
 use Rattle.slots.specs.Calls.{Act, Bufs, Voice, Done, lent, opening, reset, render, open_def, reset_def, string_def, modal_def, render_def, act_def}
 use Rattle.slots.specs.Table.{Call, verdict, bad}
 use Rattle.bank.specs.World.{World, lines_at, with_lines, Left, left_of, Moved, moved_by, call_by, call_def}
@@ -87,7 +87,7 @@ module _ (mem : List Float) (word slot j : ℕ) (wide : j ≡ 1280) where
   unfolding moved_by
   ran_moved act x e = ap made_by e
 
-  pub opened_moved : (kind : ℕ) (rate : Float) (x y : Slot) (lines : List Float) → (y, lines) ≡ opened_on kind rate part_of
+  pub opened_moved : (kind : ℕ) (rate : Float) (x y : Slot) (lines : List Float) → (y, lines) ≡ opened kind rate part_of
       → moved_by (opening kind rate) slot x word mem ≡ record { slot = y; word = word; mem = mem_with lines; bufs = lent (opening kind rate); counts = no_counts }
   unfolding moved_by act_def open_def part put
   opened_moved kind rate x y lines e = let f = rw wide at e in rw (ap (λ q. q.0) f, ap (λ q. q.1) f, wide)

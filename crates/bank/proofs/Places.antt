@@ -6,7 +6,7 @@ use native.Mathlib.Omega.{arith}
 use lib.ListN.{length, take, drop, length-take, length-drop}
 use lib.Ieee.{Float}
 use Rattle.string_voice.specs.declared.string_voice.StringVoice.{StringVoice}
-use Rattle.waveguide.specs.String.{Good}
+use Rattle.waveguide.specs.Kept.{Good}
 use Rattle.bank.specs.World.{ReadyString}
 
 -- a string's part of line memory and its places are good

@@ -30,6 +30,20 @@ with_lines s new mem = put (1280 * s) 1280 new mem
 abbrev pub voice_at : ℕ → World → Voice
 voice_at s w = record { slot = slot_at w.bank s; lines = lines_at s w.mem }
 
+-- what an accepted call makes of one slot, of the generator's word and of line memory
+pub record Moved : Type 0 where
+  pub slot : Slot
+  pub word : ℕ
+  pub mem : List Float
+  pub bufs : Bufs
+  pub counts : Counts
+
+unfoldable pub moved_by : Act → ℕ → Slot → ℕ → List Float → Moved
+moved_by act s x word mem =
+    let m = act_def act (record { slot = x; lines = lines_at s mem }) in
+    let d = value m word in
+    record { slot = d.voice.slot; word = ending m word; mem = with_lines s d.voice.lines mem; bufs = d.bufs; counts = d.counts }
+
 -- a call made: the world before and after it, its answer, the buffers after it, and the words that its draws gave
 pub record Event : Type 0 where
   pub call : Call
@@ -42,19 +56,14 @@ pub record Event : Type 0 where
 -- accepted, the slot's voice moves by its definition, run by the generator; refused, nothing does
 unfoldable pub call_by : Result (Unit {0}) Reason → World → Call → Event
 call_by (Ok u) w c =
-    let m = act_def c.act (voice_at c.slot w) in
-    let d = value m w.word in
+    let m = moved_by c.act c.slot (slot_at w.bank c.slot) w.word w.mem in
     record {
       call = c;
       before = w;
-      after = record {
-        bank = with_slot w.bank c.slot d.voice.slot;
-        word = ending m w.word;
-        mem = with_lines c.slot d.voice.lines w.mem;
-      };
-      answer = Ok d.counts;
-      bufs = d.bufs;
-      dealt = words m w.word;
+      after = record { bank = with_slot w.bank c.slot m.slot; word = m.word; mem = m.mem };
+      answer = Ok m.counts;
+      bufs = m.bufs;
+      dealt = words (act_def c.act (voice_at c.slot w)) w.word;
     }
 call_by (Err r) w c = record { call = c; before = w; after = w; answer = Err r; bufs = lent c.act; dealt = [] }
 
@@ -79,20 +88,6 @@ pub record Left : Type 0 where
 
 abbrev pub left_of : Event → Left
 left_of e = record { answer = e.answer; after = e.after; bufs = e.bufs }
-
--- what an accepted call makes of one slot, of the generator's word and of line memory
-pub record Moved : Type 0 where
-  pub slot : Slot
-  pub word : ℕ
-  pub mem : List Float
-  pub bufs : Bufs
-  pub counts : Counts
-
-unfoldable pub moved_by : Act → ℕ → Slot → ℕ → List Float → Moved
-moved_by act s x word mem =
-    let m = act_def act (record { slot = x; lines = lines_at s mem }) in
-    let d = value m word in
-    record { slot = d.voice.slot; word = ending m word; mem = with_lines s d.voice.lines mem; bufs = d.bufs; counts = d.counts }
 
 -- what the table has told of a render that it accepts, of a string's voice
 pub record ReadyString (v : StringVoice) (mem : List Float) (slot : ℕ) (out : List Float) : Type 0 where

@@ -1,7 +1,6 @@
 // An accepted call on one slot: the slot goes in and comes back by value, its lines are a part of the whole line memory lent.
 ghost use Rattle.std.specs.Prelude.{◌≡◌, ℕ, ◌<◌, List, length, Float};
 ghost use Rattle.slots.specs.Answers.{no_counts};
-ghost use Rattle.slots.specs.Slots.{with_string};
 ghost use Rattle.slots.specs.Calls.{opening, reset, render, lent};
 ghost use Rattle.noise.specs.Buffers.{held, IsAlike, IsSame};
 ghost use Rattle.bank.specs.World.{moved_by, Ready, ReadyString};
@@ -33,7 +32,7 @@ pub fn open(lines: &mut [f32], slot: usize, kind: u32, sample_rate_hz: f32) -> S
 pub fn reset_string(voice: StringVoice, lines: &mut [f32], slot: usize) -> StringVoice
     requires { (slot < 8) × (length lines.old ≡ 10240) }
     ensures { (x : Slot) (w : ℕ) → x.string ≡ voice → moved_by reset slot x w lines.old
-        ≡ record { slot = with_string x result; word = w; mem = lines.new; bufs = lent reset; counts = no_counts } }
+        ≡ record { slot = record x { string = result }; word = w; mem = lines.new; bufs = lent reset; counts = no_counts } }
 {
     voice.reset(&mut lines[LINES * slot..LINES * slot + LINES])
 }
@@ -64,7 +63,7 @@ pub fn render_string(
 ) -> Rendered<StringVoice>
     requires { ReadyString voice lines.old slot b.old.out.now × IsAlike b.old }
     ensures moved { (x : Slot) → x.kind ≡ 1 → x.string ≡ voice → moved_by (render k (held b.old)) slot x word lines.old ≡ record {
-      slot = with_string x result.voice;
+      slot = record x { string = result.voice };
       word = result.word;
       mem = lines.new;
       bufs = held b.new;

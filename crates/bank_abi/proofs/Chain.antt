@@ -10,6 +10,8 @@ use Rattle.utils.specs.Filter.{svf_new, dc_init}
 use Rattle.modes.specs.Resonator.{svf_new as mode_new, filters_new, resonator_new}
 use Rattle.modal_voice.specs.ModalVoice.{voice_new}
 use Rattle.noise.specs.declared.excitation.Counts.{Counts}
+use Rattle.waveguide.specs.String.{string_new}
+use Rattle.string_voice.specs.StringVoice as string_voice
 use Rattle.slots.specs.declared.slots.Bank.{Bank}
 use Rattle.slots.specs.Calls.{Bufs}
 use Rattle.slots.specs.Slots.{no_string, empty_slot, fresh}
@@ -48,7 +50,7 @@ unfolding is_bank bad_flags parts
 fresh_is = ap is_bank fresh_zeros ∙ refl
 
 fresh_back : decode_bank (encode_bank fresh) ≡ fresh
-unfolding decode_bank parts decode_slot slot_in voice_in string_in svf_in dc_in modal_in mode_in batch_in words of_bits tab fresh empty_slot no_string voice_new resonator_new filters_new mode_new svf_new dc_init
+unfolding decode_bank parts decode_slot slot_in voice_in string_in svf_in dc_in modal_in mode_in batch_in words of_bits tab fresh empty_slot no_string string_voice.voice_new string_new voice_new resonator_new filters_new mode_new svf_new dc_init
 fresh_back = ap decode_bank fresh_zeros ∙ refl
 
 pub exported_demand_3 : ExportedDemand3

@@ -21,7 +21,7 @@ use Rattle.ground.proofs.Bools.{or_false}
 use Rattle.ground.proofs.Part.{length_part}
 use Rattle.ground.proofs.Draw.{always_run, draws_always}
 use Rattle.claims.specs.Ledger.{entry}
-use Rattle.claims.proofs.Acts.{OkSlot, Follows, led_of, act_law}
+use Rattle.claims.proofs.Acts.{Follows, led_of, act_law}
 use Rattle.slot_bytes.proofs.Parts.{bank_after}
 use Rattle.slot_bytes.proofs.Little.{length_slot_bytes}
 use Rattle.bank_abi.proofs.Back.{decode_encode}
@@ -91,11 +91,10 @@ small_after : (act : Act) (slot : ℕ) (s : Slot) (word : ℕ) (mem : List Float
 unfolding moved_by
 small_after act slot s word mem o l h i e =
     let v : Voice = record { slot = s; lines = lines_at slot mem } in
-    let ok : OkSlot s = record { kind = o.known; place = o.string; stretch = o.stretch; left = o.left } in
     let size : length (lines_at slot mem) ≡ 1280 = length_part (1280 * slot) 1280 mem (omega arith) in
-    let a = draws_always _ (Follows (entry act (led_of s))) (act_def act v) (act_law act v ok size i e) in
+    let a = draws_always _ (Follows (entry act (led_of s))) (act_def act v) (act_law act v o size i e) in
     let k = (always_run (Follows (entry act (led_of s))) (act_def act v) word a refl).ok in
-    record { kind = omega (arith, k.kind); string = omega (arith, k.place); stretch = omega (arith, k.stretch); left = omega (arith, k.left) }
+    record { kind = omega (arith, k.known); string = omega (arith, k.string); stretch = omega (arith, k.stretch); left = omega (arith, k.left) }
 
 -- ---- the two cases
 

@@ -15,7 +15,7 @@ use Rattle.ground.specs.Each.{Each}
 use Rattle.ground.proofs.Draw.{Draws, draws_then}
 use Rattle.bounds.proofs.Order.{and_true}
 use Rattle.noise.specs.declared.excitation.Knobs.{Knobs}
-use Rattle.waveguide.specs.String.{string_init, string_reset}
+use Rattle.waveguide.specs.String.{string_new, string_init, string_reset}
 use Rattle.string_voice.specs.StringVoice.{excitation_words, voice_new, voice_init, voice_reset, render_of}
 use Rattle.noise.proofs.Ranges.{Knob, Fundamental, knob, fundamental}
 use Rattle.string_voice.proofs.Drawn as string
@@ -27,25 +27,21 @@ use Rattle.slots.specs.declared.slots.Slot.{Slot}
 use Rattle.slots.specs.Slots.{no_string}
 use Rattle.slots.specs.Calls.{Bufs, Act, opening, reset, render, InF32, Voice, Done, open_def, reset_def, string_def, modal_def, render_def, act_def}
 use Rattle.slots.specs.Table.{Check, first, within, lowest, alike, checks}
+use Rattle.noise.specs.Excitation.{Alike}
+use Rattle.bank.proofs.Accepted.{Sound, all_spared, render_spared, alike_lent}
 use Rattle.claims.specs.Ledger.{Led, Entry, string_entry, modal_entry, render_entry, entry}
 use Rattle.claims.specs.Claim.{total}
 use Rattle.claims.proofs.Agreement.{left_is, phase_is, dispersion_is}
 
--- ---- a slot as the ledger has it, and what number 1 asks of it
+-- ---- a slot as the ledger has it
 
 abbrev pub led_of : Slot → Led
 led_of x = record { kind = x.kind; left = x.string.remaining_noise_samples; phase = x.string.string.src_phase }
 
-pub record OkSlot (x : Slot) : Type 0 where
-  pub kind : x.kind ≤ 2
-  pub place : x.string.string.string < 1024
-  pub stretch : x.string.string.stretch < 256
-  pub left : x.string.remaining_noise_samples ≤ 1048576
-
 -- what a call for one voice leaves is what the ledger says
 pub record Follows (e : Entry) (d : Done) : Type 0 where
   pub led : led_of d.voice.slot ≡ e.led
-  pub ok : OkSlot d.voice.slot
+  pub ok : Sound d.voice.slot
   pub lines : length d.voice.lines ≡ 1280
   pub counts : d.counts ≡ e.counts
 
@@ -55,18 +51,12 @@ ByLedger e m = Draws (total e.counts) (Follows e) m
 
 -- ---- a string's render
 
--- buffers of one length
-pub record Alike (b : Bufs) : Type 0 where
-  pub temp2 : length b.temp2 ≡ length b.temp
-  pub out : length b.out ≡ length b.temp
-  pub aux : length b.aux ≡ length b.temp
-
 -- burst or dust words first, dispersion words behind them
 in_order : (sustain : Bool) (l n d : ℕ) → excitation_words sustain l n + d ≡ string.burst_words sustain l n + string.dust_words sustain n + d
 in_order true l n d = omega arith
 in_order false l n d = omega arith
 
-module _ (k : Knobs) (b : Bufs) (v : Voice) (o : OkSlot v.slot) (e : length v.lines ≡ 1280) (a : Alike b) where
+module _ (k : Knobs) (b : Bufs) (v : Voice) (o : Sound v.slot) (e : length v.lines ≡ 1280) (a : Alike b.temp b.temp2 b.out b.aux) where
   module _ (f : Fundamental k.f0) (s : Knob k.structure) (t : T (fits binary32 k.structure)) where
     counts_are : string.counts_of k v.slot.string (length b.temp) ≡ (string_entry k (length b.temp) (led_of v.slot)).counts
     unfolding string_entry
@@ -88,7 +78,7 @@ module _ (k : Knobs) (b : Bufs) (v : Voice) (o : OkSlot v.slot) (e : length v.li
         draws_then (total l.counts) (string.Left k x n) (Follows l) m _
         (subst (λ (j : ℕ). Draws j (string.Left k x n) m)
         (in_order k.sustain (string.left_at k x) n (string.dispersion_words k x.string n) ∙ ap total counts_are)
-        (string.render_draws k x n v.lines b.temp b.temp2 b.out b.aux (record { size = e; string = o.place; stretch = o.stretch }) refl a.temp2 a.out a.aux))
+        (string.render_draws k x n v.lines b.temp b.temp2 b.out b.aux (record { size = e; string = o.string; stretch = o.stretch }) refl a.temp2_is a.out_is a.aux_is))
         (λ r h. record {
           led = λ i. record {
             kind = v.slot.kind;
@@ -96,8 +86,8 @@ module _ (k : Knobs) (b : Bufs) (v : Voice) (o : OkSlot v.slot) (e : length v.li
             phase = (h.string.phase ∙ phase_is k x.string n) i;
           };
           ok = record {
-            kind = o.kind;
-            place = h.string.good.string;
+            known = o.known;
+            string = h.string.good.string;
             stretch = h.string.good.stretch;
             left = subst (λ (l : ℕ). l ≤ 1048576) (sym h.left) (string.left_at_most k x n f o.left);
           };
@@ -116,40 +106,18 @@ module _ (k : Knobs) (b : Bufs) (v : Voice) (o : OkSlot v.slot) (e : length v.li
       let P = modal.Left k v.slot.modal n in
       draws_then (0 + d + 0) P (Follows (modal_entry k n (led_of v.slot))) m _
       (subst (λ (j : ℕ). Draws j P m) (omega arith)
-      (modal.render_draws k v.slot.modal n b.temp b.temp2 b.out b.aux refl a.temp2 a.out a.aux))
+      (modal.render_draws k v.slot.modal n b.temp b.temp2 b.out b.aux refl a.temp2_is a.out_is a.aux_is))
       (λ q h. record {
         led = refl;
-        ok = record { kind = o.kind; place = o.place; stretch = o.stretch; left = o.left };
+        ok = record { known = o.known; string = o.string; stretch = o.stretch; left = o.left };
         lines = e;
         counts = h.counts;
       })
 
 -- ---- the table
 
-abbrev accepts : Result (Unit {0}) Reason → Bool
-accepts (Ok u) = true
-accepts (Err r) = false
-
--- a check of the table that did not apply, and every check of an accepted call
-pub passed : (b : Bool) (r : Reason) (v : Result (Unit {0}) Reason) → cond b (Err r) v ≡ Ok tt → (b ≡ false) × (v ≡ Ok tt)
-passed true r v e = absurd (false≢true (ap accepts e))
-passed false r v e = (refl, e)
-
-pub all_passed : (cs : List Check) → first cs ≡ Ok tt → Each (λ c. c.applies ≡ false) cs
-unfolding first
-all_passed [] e = tt
-all_passed (c ∷ cs) e = let p = passed c.applies c.reason (first cs) e in (p.0, all_passed cs p.1)
-
 pub passes_test : (b : Bool) → not b ≡ false → T b
 passes_test b e = passes b (not-false b e)
-
-pub alike_is : (b : Bufs) → T (alike b) → Alike b
-unfolding alike
-alike_is b t =
-    let n = length b.temp in
-    let p = and_true (eqb (length b.temp2) n && eqb (length b.out) n) (eqb (length b.aux) n) t in
-    let q = and_true (eqb (length b.temp2) n) (eqb (length b.out) n) p.0 in
-    record { temp2 = eqb→eq (length b.temp2) n q.0; out = eqb→eq (length b.out) n q.1; aux = eqb→eq (length b.aux) n p.1 }
 
 pub f0_in : (f0 : Float) → T (within lowest c0·5 f0) → Fundamental f0
 unfolding within
@@ -167,19 +135,19 @@ knob_in x t =
 
 open_law : (kind : ℕ) (rate : Float) (v : Voice) → length v.lines ≡ 1280 → T (eqb kind 1 || eqb kind 2)
     → Follows (entry (opening kind rate) (led_of v.slot)) (open_def kind rate v)
-unfolding entry open_def voice_init voice_new string_init no_string
+unfolding entry open_def voice_init voice_new string_new string_init string_reset no_string
 open_law zero rate v e t = absurd t
 open_law (suc zero) rate v e t =
     record {
       led = refl;
-      ok = record { kind = lit≤ tt; place = lit< tt; stretch = lit< tt; left = zero-le };
+      ok = record { known = lit≤ tt; string = lit< tt; stretch = lit< tt; left = zero-le };
       lines = length-replicate (length v.lines) c0 ∙ e;
       counts = refl;
     }
 open_law (suc (suc zero)) rate v e t =
     record {
       led = refl;
-      ok = record { kind = lit≤ tt; place = lit< tt; stretch = lit< tt; left = zero-le };
+      ok = record { known = lit≤ tt; string = lit< tt; stretch = lit< tt; left = zero-le };
       lines = length-replicate (length v.lines) c0 ∙ e;
       counts = refl;
     }
@@ -190,17 +158,17 @@ open_law (suc (suc (suc j))) rate v e t = let kind = suc (suc (suc j)) in absurd
     above_two kind l false true f g t = omega (arith, g tt)
     above_two kind l false false f g t = t
 
-reset_law : (v : Voice) → OkSlot v.slot → length v.lines ≡ 1280 → Follows (entry reset (led_of v.slot)) (reset_def v)
+reset_law : (v : Voice) → Sound v.slot → length v.lines ≡ 1280 → Follows (entry reset (led_of v.slot)) (reset_def v)
 unfolding entry reset_def voice_reset string_reset
 reset_law v o e =
     record {
       led = refl;
-      ok = record { kind = o.kind; place = lit< tt; stretch = lit< tt; left = o.left };
+      ok = record { known = o.known; string = lit< tt; stretch = lit< tt; left = o.left };
       lines = length-replicate (length v.lines) c0 ∙ e;
       counts = refl;
     }
 
-render_law : (kind : ℕ) (k : Knobs) (b : Bufs) (v : Voice) → OkSlot v.slot → length v.lines ≡ 1280 → Alike b
+render_law : (kind : ℕ) (k : Knobs) (b : Bufs) (v : Voice) → Sound v.slot → length v.lines ≡ 1280 → Alike b.temp b.temp2 b.out b.aux
     → Fundamental k.f0 → Knob k.structure → T (fits binary32 k.structure)
     → ByLedger (render_entry kind k (length b.temp) (led_of v.slot)) (render_def kind k b v)
 unfolding render_entry render_def
@@ -208,15 +176,15 @@ render_law zero k b v o e a f s t = (refl, record { led = refl; ok = o; lines = 
 render_law (suc zero) k b v o e a f s t = string_law k b v o e a f s t
 render_law (suc (suc j)) k b v o e a f s t = modal_law k b v o e a
 
-pub act_law : (a : Act) (v : Voice) → OkSlot v.slot → length v.lines ≡ 1280 → InF32 a → first (checks v.slot.kind a) ≡ Ok tt
+pub act_law : (a : Act) (v : Voice) → Sound v.slot → length v.lines ≡ 1280 → InF32 a → first (checks v.slot.kind a) ≡ Ok tt
     → ByLedger (entry a (led_of v.slot)) (act_def a v)
 unfolding act_def entry checks
 act_law (opening kind rate) v o e i p =
-    let c = all_passed (checks v.slot.kind (opening kind rate)) p in
+    let c = all_spared (checks v.slot.kind (opening kind rate)) p in
     (refl, open_law kind rate v e (passes_test (eqb kind 1 || eqb kind 2) c.0))
 act_law reset v o e i p = (refl, reset_law v o e)
 act_law (render k b) v o e i p =
-    let c = all_passed (checks v.slot.kind (render k b)) p in
-    render_law v.slot.kind k b v o e (alike_is b (passes_test (alike b) c.1.0))
+    let c = render_spared v.slot.kind k b p in
+    render_law v.slot.kind k b v o e (alike_lent v.slot.kind k b p)
     (f0_in k.f0 (passes_test (within lowest c0·5 k.f0) c.1.1.1.0))
     (knob_in k.structure (passes_test (within c0 c1 k.structure) c.1.1.1.1.1.0)) i

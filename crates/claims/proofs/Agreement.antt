@@ -16,7 +16,8 @@ use Rattle.bounds.proofs.Bounds.{int, encloses, const_in, div_in}
 use Rattle.noise.specs.declared.excitation.Knobs.{Knobs}
 use Rattle.waveguide.specs.declared.string.String.{String}
 use Rattle.string_voice.specs.declared.string_voice.StringVoice.{StringVoice}
-use Rattle.waveguide.specs.String.{delay_of, ratio_of, snap, words_of}
+use Rattle.waveguide.specs.String.{delay_of, ratio_of, snap}
+use Rattle.waveguide.specs.Kept.{words_of}
 use Rattle.string_voice.specs.StringVoice.{cutoff_for, struck}
 use Rattle.waveguide.proofs.Steps.{wrap}
 use Rattle.waveguide.proofs.Blocks.{ratio_for}

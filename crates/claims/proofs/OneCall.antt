@@ -17,18 +17,21 @@ use Rattle.ground.specs.Each.{Each}
 use Rattle.ground.proofs.Each.{each_at, each_set}
 use Rattle.ground.proofs.Draw.{fed_words, words_are, ending_is, always_run, draws_length, draws_always}
 use Rattle.ground.proofs.Part.{length_part, length_put, part_put, part_put_below, part_put_above}
+use Rattle.waveguide.specs.String.{string_new}
+use Rattle.string_voice.specs.StringVoice as string_voice
 use Rattle.slots.specs.declared.slots.Slot.{Slot}
 use Rattle.std.specs.Prelude.{Result, Ok, Err}
 use Rattle.slots.specs.declared.answers.Reason.{Reason}
-use Rattle.slots.specs.declared.answers.Reason.TheVariants.{NoSlot}
+use Rattle.slots.specs.declared.answers.Reason.TheVariants.{Memory, NoSlot}
 use Rattle.slots.specs.Answers.{counts_of}
 use Rattle.slots.specs.Slots.{no_string, empty_slot, slot_at, with_slot}
 use Rattle.slots.specs.Calls.{Act, opening, reset, render, InF32, Voice, Done, act_def}
-use Rattle.slots.specs.Table.{Call, first, checks, verdict, bad_slot, bad_slots, bad}
-use Rattle.bank.specs.World.{World, lines_at, with_lines, voice_at, Event, call_by, call_def}
+use Rattle.slots.specs.Table.{Call, ◌⇐◌, first, checks, verdict, bad_slot, bad_slots, bad}
+use Rattle.bank.specs.World.{World, lines_at, with_lines, voice_at, Event, moved_by, call_by, call_def}
+use Rattle.bank.proofs.Accepted.{Sound, spared}
 use Rattle.claims.specs.Ledger.{Led, fresh_led, Entry, entry, Line, line_by, line_of}
 use Rattle.claims.specs.Claim.{nothing, given, feed, of_done, hear, seen, total, in_halves, Ordered}
-use Rattle.claims.proofs.Acts.{led_of, OkSlot, Follows, ByLedger, passed, act_law}
+use Rattle.claims.proofs.Acts.{led_of, Follows, ByLedger, act_law}
 use Rattle.claims.proofs.Order.{order_law}
 
 map_set : {A B : Type 0} (f : A → B) (l : List A) (i : ℕ) (y : A) → map f (set l i y) ≡ set (map f l) i (f y)
@@ -50,23 +53,23 @@ lines_other mem new s t full size h d = go (dec_lt t s)
 pub record Inv (w : World) : Type 0 where
   pub full : length w.mem ≡ 10240
   pub eight : length w.bank.slots ≡ 8
-  pub oks : Each OkSlot w.bank.slots
+  pub oks : Each Sound w.bank.slots
 
 abbrev pub leds : World → List Led
 leds w = map led_of w.bank.slots
 
 led_at : (w : World) (s : ℕ) → get_or (leds w) s fresh_led ≡ led_of (slot_at w.bank s)
-unfolding empty_slot no_string
+unfolding empty_slot no_string string_voice.voice_new string_new
 led_at w s = get_or-map led_of w.bank.slots s empty_slot
 
-no_bad : (l : List Slot) → Each OkSlot l → bad_slots l ≡ false
+no_bad : (l : List Slot) → Each Sound l → bad_slots l ≡ false
 unfolding bad_slots bad_slot
 no_bad [] p = refl
 no_bad (x ∷ xs) p =
     let k = p.0 in
     simp (
-      le-ltb 2 x.kind k.kind,
-      lt-leb 1024 x.string.string.string k.place,
+      le-ltb 2 x.kind k.known,
+      lt-leb 1024 x.string.string.string k.string,
       lt-leb 256 x.string.string.stretch k.stretch,
       le-ltb 1048576 x.string.remaining_noise_samples k.left,
       no_bad xs p.1,
@@ -113,7 +116,7 @@ module _ (w : World) (v : Inv w) (c : Call) where
     law : ByLedger en m
     unfolding m en
     law =
-        act_law c.act (voice_at c.slot w) (each_at OkSlot w.bank.slots c.slot empty_slot slot_within v.oks)
+        act_law c.act (voice_at c.slot w) (each_at Sound w.bank.slots c.slot empty_slot slot_within v.oks)
         (length_part (1280 * c.slot) 1280 w.mem lines_in) f p
 
     good : Follows en d
@@ -152,7 +155,7 @@ module _ (w : World) (v : Inv w) (c : Call) where
         record {
           full = length_put (1280 * c.slot) 1280 d.voice.lines w.mem lines_in good.lines ∙ v.full;
           eight = length-set w.bank.slots c.slot d.voice.slot ∙ v.eight;
-          oks = each_set OkSlot w.bank.slots c.slot d.voice.slot good.ok v.oks;
+          oks = each_set Sound w.bank.slots c.slot d.voice.slot good.ok v.oks;
         }
 
     heard : (s : ℕ) (b : Bool) → eqb c.slot s ≡ b
@@ -168,7 +171,7 @@ module _ (w : World) (v : Inv w) (c : Call) where
         λ i. some (record { voice = sym (voice_other s n) i; bufs = none })
 
     accepted : Step w (leds w) c (call_by (Ok tt) w c) (line_by (Ok tt) (leds w) c)
-    unfolding call_by line_by m d after
+    unfolding call_by moved_by line_by m d after
     accepted =
         record {
           same = λ i. Ok ((good.counts ∙ ap (λ (x : Entry). x.counts) (sym entry_is)) i);
@@ -179,7 +182,7 @@ module _ (w : World) (v : Inv w) (c : Call) where
           dealt_is = words_are m w.word ∙ ap (λ (k : ℕ). stream k w.word) many;
           ends_is = ending_is m w.word ∙ ap (λ (k : ℕ). moved k w.word) many;
           alone_is = λ s k. heard s (eqb c.slot s) refl;
-          ordered_is = order_law c.act (voice_at c.slot w) w.word (each_at OkSlot w.bank.slots c.slot empty_slot slot_within v.oks)
+          ordered_is = order_law c.act (voice_at c.slot w) w.word (each_at Sound w.bank.slots c.slot empty_slot slot_within v.oks)
               (length_part (1280 * c.slot) 1280 w.mem lines_in) p;
         }
 
@@ -190,7 +193,7 @@ module _ (w : World) (v : Inv w) (c : Call) where
   by_verdict : InF32 c.act → (r : Result (Unit {0}) Reason) → verdict false (slot_at w.bank c.slot).kind c ≡ r → Step w (leds w) c (call_by r w c) (line_by r (leds w) c)
   unfolding verdict first
   by_verdict f (Ok u) e =
-      let q = passed (ltb 7 c.slot) NoSlot (first (checks (slot_at w.bank c.slot).kind c.act)) e in
+      let q = spared NoSlot (ltb 7 c.slot) (checks (slot_at w.bank c.slot).kind c.act) (spared Memory false (NoSlot ⇐ ltb 7 c.slot ∷ checks (slot_at w.bank c.slot).kind c.act) e).1 in
       accepted f (suc-le-suc (ltb-false 7 c.slot q.0)) q.1
   by_verdict f (Err r) e = refused r
 

@@ -3,7 +3,6 @@ use mathlib.Core.Path.{◌≡◌}
 use mathlib.Core.Bool.{Bool}
 use Prim.Native.Nat.{ℕ}
 use native.Mathlib.Omega.{arith}
-use lib.Dec.{ltb}
 use Rattle.ground.specs.F32.{c0, c0·5, c1}
 use Rattle.bounds.proofs.Indices.{low_in}
 use Rattle.noise.specs.declared.excitation.Knobs.{Knobs}
@@ -14,17 +13,15 @@ use Rattle.waveguide.proofs.Ranges.{shift_in}
 use Rattle.string_voice.proofs.Ranges.{exciter_index, damping_index}
 use Rattle.modal_voice.proofs.Ranges.{in_tables}
 use Rattle.std.specs.Prelude.{Ok}
-use Rattle.slots.specs.declared.answers.Reason.TheVariants.{Memory, NoSlot}
 use Rattle.slots.specs.Calls.{Bufs, render}
-use Rattle.slots.specs.Table.{first, within, lowest, checks, verdict}
+use Rattle.slots.specs.Table.{within, lowest, verdict}
+use Rattle.bank.proofs.Accepted.{begun, render_spared}
 use Rattle.claims.specs.Tables.{StringInTables, AcceptedInTables}
-use Rattle.claims.proofs.Acts.{passed, all_passed, passes_test, f0_in, knob_in}
+use Rattle.claims.proofs.Acts.{passes_test, f0_in, knob_in}
 
 accepted : (bad : Bool) (kind slot : ℕ) (k : Knobs) (b : Bufs) → verdict bad kind (record { slot = slot; act = render k b }) ≡ Ok tt → Accepted k
-unfolding verdict first checks
 accepted bad kind slot k b e =
-    let p = passed (ltb 7 slot) NoSlot (first (checks kind (render k b))) (passed bad Memory _ e).1 in
-    let c = all_passed (checks kind (render k b)) p.1 in
+    let c = render_spared kind k b (begun bad slot kind (render k b) e).rest in
     record {
       f0 = f0_in k.f0 (passes_test (within lowest c0·5 k.f0) c.1.1.1.0);
       accent = knob_in k.accent (passes_test (within c0 c1 k.accent) c.1.1.1.1.0);

@@ -5,7 +5,8 @@ use Prim.Native.Nat.{◌+◌, ◌*◌, ◌^◌}
 use lib.IntN.{negsuc}
 use lib.Ieee.{Float, fin, binary32, of_bits, sub, mul, lt, le, neg, fits}
 use Rattle.ground.specs.F32.{c0·26}
-use Rattle.waveguide.specs.String.{non_linearity, words_of}
+use Rattle.waveguide.specs.String.{non_linearity}
+use Rattle.waveguide.specs.Kept.{words_of}
 use Rattle.string_voice.specs.StringVoice.{amount}
 
 -- ---- 0.26 + 2^-200 is no f32: it is above 0.26, and its amount rounds to 0, which is a bridge

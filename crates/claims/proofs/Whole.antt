@@ -15,6 +15,8 @@ use Rattle.ground.specs.Each.{Each}
 use Rattle.ground.proofs.Draw.{moved_add, stream_add, length_stream, stream_at}
 use Rattle.std.specs.Prelude.{Result, Ok, Err}
 use Rattle.noise.specs.declared.excitation.Counts.{Counts}
+use Rattle.waveguide.specs.String.{string_new}
+use Rattle.string_voice.specs.StringVoice as string_voice
 use Rattle.slots.specs.declared.answers.Reason.{Reason}
 use Rattle.slots.specs.declared.answers.Reason.TheVariants.{Memory}
 use Rattle.slots.specs.Answers.{counts_of, number_of}
@@ -24,7 +26,7 @@ use Rattle.slots.specs.Table.{Call, first, verdict, bad}
 use Rattle.bank.specs.World.{World, start, lines_at, voice_at, Event, call_by, call_def, run_from, end_from}
 use Rattle.claims.specs.Ledger.{Led, fresh_led, Line, line_by, line_of, ledger_from, ledger}
 use Rattle.claims.specs.Claim.{Feed, feed, feeds, Heard, hear, note, go_on, alone, seen, sum_of, total, drawn, dealt, Kept, Account, Ordered, Asked, calls_of, Demand3}
-use Rattle.claims.proofs.Acts.{OkSlot}
+use Rattle.bank.proofs.Accepted.{Sound}
 use Rattle.claims.proofs.OneCall.{Inv, leds, Step, none_dealt, step}
 
 -- ---- the list
@@ -133,9 +135,9 @@ module _ (w : World) (d : length w.mem ≢ 10240) where
 
 -- ---- the whole
 
-empty_ok : OkSlot empty_slot
-unfolding empty_slot no_string
-empty_ok = record { kind = lit≤ tt; place = lit< tt; stretch = lit< tt; left = zero-le }
+empty_ok : Sound empty_slot
+unfolding empty_slot no_string string_voice.voice_new string_new
+empty_ok = record { known = lit≤ tt; string = lit< tt; stretch = lit< tt; left = zero-le }
 
 fresh_inv : (seed : ℕ) (mem : List Float) → length mem ≡ 10240 → Inv (start seed mem)
 unfolding fresh
@@ -147,7 +149,7 @@ fresh_inv seed mem e =
     }
 
 fresh_leds : (seed : ℕ) (mem : List Float) → replicate 8 fresh_led ≡ leds (start seed mem)
-unfolding fresh empty_slot no_string
+unfolding fresh empty_slot no_string string_voice.voice_new string_new
 fresh_leds seed mem = refl
 
 fresh_voice : (seed : ℕ) (mem : List Float) (s : ℕ) → s < 8 → voice_at s (start seed mem) ≡ record { slot = empty_slot; lines = lines_at s mem }

@@ -58,7 +58,7 @@ string_entry k n l =
     let r = cond (whole k.f0) c1 (ratio k.f0) in
     let p = cond (whole k.f0) c1 l.phase in
     record {
-      led = record { kind = l.kind; left = cond k.sustain left (left - min left n); phase = phase_after n r p };
+      led = record l { left = cond k.sustain left (left - min left n); phase = phase_after n r p };
       counts = record {
         burst = cond k.sustain 0 (min left n);
         dust = cond k.sustain n 0;
@@ -77,7 +77,7 @@ render_entry (suc (suc j)) k n l = modal_entry k n l
 
 unfoldable pub entry : Act → Led → Entry
 entry (opening kind rate) l = record { led = record { kind = kind; left = 0; phase = c0 }; counts = no_counts }
-entry reset l = record { led = record { kind = l.kind; left = l.left; phase = c0 }; counts = no_counts }
+entry reset l = record { led = record l { phase = c0 }; counts = no_counts }
 entry (render k b) l = render_entry l.kind k (length b.temp) l
 
 -- a call's answer by the ledger, and the slots after it

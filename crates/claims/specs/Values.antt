@@ -5,6 +5,8 @@ use Rattle.std.specs.Float.{binary32, nan, fin}
 use Rattle.std.specs.Float.Ieee.{of_bits, add, sub, mul, div, lt, le, to_unsigned}
 use Rattle.ground.specs.F32.{c0, c0·5, c48000}
 use Rattle.noise.specs.declared.excitation.Knobs.{Knobs}
+use Rattle.waveguide.specs.String.{string_new}
+use Rattle.string_voice.specs.StringVoice as string_voice
 use Rattle.slots.specs.declared.slots.Slot.{Slot}
 use Rattle.slots.specs.declared.slots.Bank.{Bank}
 use Rattle.slots.specs.declared.answers.Reason.{Reason}
@@ -84,30 +86,9 @@ given r = number_of (verdict (bad r.bank (zeros r.memory)) (slot_at r.bank r.cal
 -- a slot of a kind, and of these write places and this left
 abbrev slot_with : ℕ → ℕ → ℕ → ℕ → Slot
 slot_with kind string stretch left =
-    let e = empty_slot in
-    let v = e.string in
-    let s = v.string in
-    record {
-      kind = kind;
-      string = record {
-        excitation_filter = v.excitation_filter;
-        string = record {
-          string = string;
-          stretch = stretch;
-          iir_damping_filter = s.iir_damping_filter;
-          dc_blocker = s.dc_blocker;
-          delay = s.delay;
-          dispersion_noise = s.dispersion_noise;
-          curved_bridge = s.curved_bridge;
-          src_phase = s.src_phase;
-          out_sample_0 = s.out_sample_0;
-          out_sample_1 = s.out_sample_1;
-          sample_rate_hz = s.sample_rate_hz;
-        };
-        remaining_noise_samples = left;
-      };
-      modal = e.modal;
-    }
+    let v = empty_slot.string in
+    let s = record v.string { string = string; stretch = stretch } in
+    record empty_slot { kind = kind; string = record v { string = s; remaining_noise_samples = left } }
 
 -- a string in slot 0, a modal voice in slot 1, and slot 7 as it is asked
 abbrev held : Slot → Bank
@@ -225,5 +206,5 @@ rows =
 
 -- the table gives each row its number
 pub rows_value : map given rows ≡ map (λ r. r.number) rows
-unfolding given verdict first checks within alike bad bad_slots bad_slot fresh empty_slot no_string lt le of_bits
+unfolding given verdict first checks within alike bad bad_slots bad_slot fresh empty_slot no_string string_voice.voice_new string_new lt le of_bits
 rows_value = refl

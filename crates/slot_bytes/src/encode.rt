@@ -1,7 +1,7 @@
 // A slot into its 393 bytes.
 ghost use Rattle.std.specs.Prelude.{◌≡◌, ◌<◌, length};
 ghost use Rattle.slots.specs.declared.slots.Slot.{Slot};
-ghost use Rattle.slots.specs.Slots.{slot_at, with_string};
+ghost use Rattle.slots.specs.Slots.{slot_at};
 ghost use Rattle.slot_bytes.specs.Words.{put_words};
 ghost use Rattle.slot_bytes.specs.Layout.{decode_slot, decode_bank, StringF32, VoiceF32, ModalF32, SlotF32, string_words, voice_words, modal_words, encode_slot, with_bytes};
 
@@ -79,7 +79,7 @@ impl Put for Slot {
 }
 
 impl Put for StringVoice {
-    ghost after = { λ v s. with_string s v };
+    ghost after = { λ v s. record s { string = v } };
 
     // The kind and the modal voice are written again.
     fn put(self, b: &mut [u8; 393]) {

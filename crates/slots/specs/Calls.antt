@@ -1,8 +1,7 @@
 -- A call for one voice: a slot's record beside its 1,280 numbers of line memory. Assumes nothing.
-use Rattle.std.specs.Prelude.{List, [], ℕ, zero, suc, T, length, replicate, Float}
+use Rattle.std.specs.Prelude.{List, [], ℕ, zero, suc, T, Float}
 use Rattle.std.specs.Float.{binary32}
 use Rattle.std.specs.Float.Ieee.{fits}
-use Rattle.ground.specs.F32.{c0}
 use Rattle.ground.specs.Draw.{Draw, ret, ◌>>=◌}
 use Rattle.noise.specs.declared.excitation.Knobs.{Knobs}
 use Rattle.noise.specs.declared.excitation.Counts.{Counts}
@@ -44,8 +43,9 @@ pub record Done : Type 0 where
 -- opening clears the lines, for either kind
 unfoldable pub open_def : ℕ → Float → Voice → Done
 open_def kind rate v =
+    let o = opened kind rate v.lines in
     record {
-      voice = record { slot = opened kind rate v.lines; lines = replicate (length v.lines) c0 };
+      voice = record { slot = o.0; lines = o.1 };
       bufs = lent (opening kind rate);
       counts = no_counts;
     }
@@ -54,7 +54,7 @@ unfoldable pub reset_def : Voice → Done
 reset_def v =
     let s = string.voice_reset v.slot.string v.lines in
     record {
-      voice = record { slot = record { kind = v.slot.kind; string = s.0; modal = v.slot.modal }; lines = s.1 };
+      voice = record { slot = record v.slot { string = s.0 }; lines = s.1 };
       bufs = lent reset;
       counts = no_counts;
     }
@@ -63,7 +63,7 @@ unfoldable pub string_def : Knobs → Bufs → Voice → Draw Done
 string_def k b v =
     string.render_of k v.slot.string v.lines b.temp b.temp2 b.out b.aux >>= λ a.
     ret record {
-      voice = record { slot = record { kind = v.slot.kind; string = a.voice; modal = v.slot.modal }; lines = a.lines };
+      voice = record { slot = record v.slot { string = a.voice }; lines = a.lines };
       bufs = record { temp = a.temp; temp2 = a.temp2; out = a.out; aux = a.aux };
       counts = a.counts;
     }
@@ -72,7 +72,7 @@ unfoldable pub modal_def : Knobs → Bufs → Voice → Draw Done
 modal_def k b v =
     modal.render_of k v.slot.modal b.temp b.temp2 b.out b.aux >>= λ a.
     ret record {
-      voice = record { slot = record { kind = v.slot.kind; string = v.slot.string; modal = a.voice }; lines = v.lines };
+      voice = record v { slot = record v.slot { modal = a.voice } };
       bufs = record { temp = a.temp; temp2 = a.temp2; out = a.out; aux = a.aux };
       counts = a.counts;
     }

@@ -1,7 +1,7 @@
 // The bank's state by value: eight slots, each with a voice of either kind.
 ghost use Rattle.std.specs.Prelude.{◌≡◌, ◌<◌};
 ghost use Rattle.ground.specs.F32.{c0};
-ghost use Rattle.slots.specs.Slots.{Names, no_string, empty_slot, fresh, slot_at, with_slot, opened_on};
+ghost use Rattle.slots.specs.Slots.{Names, no_string, empty_slot, fresh, slot_at, with_slot, opened};
 
 use crate::answers::Reason;
 use modal_voice::modal_voice::ModalVoice;
@@ -105,7 +105,7 @@ impl Bank {
 // A slot opened with a string, its lines cleared.
 #[tactic(auto, unfolding(string_voice::specs::StringVoice::voice_init))]
 fn opened_string(sample_rate_hz: f32, lines: &mut [f32]) -> Slot
-    ensures { (result, lines.new) ≡ opened_on 1 sample_rate_hz lines.old }
+    ensures { (result, lines.new) ≡ opened 1 sample_rate_hz lines.old }
 {
     Slot {
         kind: Kind::String as u32,
@@ -116,7 +116,7 @@ fn opened_string(sample_rate_hz: f32, lines: &mut [f32]) -> Slot
 
 // A slot opened with a modal voice, its lines cleared too.
 fn opened_modal(lines: &mut [f32]) -> Slot
-    ensures { (result, lines.new) ≡ opened_on 2 c0 lines.old }
+    ensures { (result, lines.new) ≡ opened 2 c0 lines.old }
 {
     utils::delay_line::reset(lines);
     Slot {
@@ -129,7 +129,7 @@ fn opened_modal(lines: &mut [f32]) -> Slot
 // A slot opened with a voice of the kind, its lines cleared. `kind` may be any number past 0, as its definition tells of each.
 pub fn opened(kind: u32, sample_rate_hz: f32, lines: &mut [f32]) -> Slot
     requires { 0 < kind }
-    ensures { (result, lines.new) ≡ opened_on kind sample_rate_hz lines.old }
+    ensures { (result, lines.new) ≡ opened kind sample_rate_hz lines.old }
 {
     match Kind::try_from(kind) {
         Ok(Kind::String) => opened_string(sample_rate_hz, lines),

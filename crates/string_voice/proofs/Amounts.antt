@@ -12,7 +12,8 @@ use Rattle.bounds.proofs.Monotone.{mul_le}
 use Rattle.bounds.proofs.Bounds.{Between, encloses, is_in, const_in, sub_in, mul_in, finite_in}
 use Rattle.bounds.proofs.Gaps.{tiny, above_gap, below_gap}
 use Rattle.waveguide.specs.declared.string.StringNonLinearity.TheVariants.{CurvedBridge, Dispersion}
-use Rattle.waveguide.specs.String.{non_linearity, words_of}
+use Rattle.waveguide.specs.String.{non_linearity}
+use Rattle.waveguide.specs.Kept.{words_of}
 use Rattle.string_voice.specs.StringVoice.{amount}
 
 -- two tests that pass together

@@ -21,8 +21,10 @@ use Rattle.waveguide.specs.declared.string.StringNonLinearity.{StringNonLinearit
 use Rattle.waveguide.specs.declared.string.String.{String}
 use Rattle.noise.specs.declared.excitation.Knobs.{Knobs}
 use Rattle.string_voice.specs.declared.string_voice.StringVoice.{StringVoice}
-use Rattle.waveguide.specs.String.{ratio_of, snap, non_linearity, words_at, strung, Good}
-use Rattle.string_voice.specs.StringVoice.{cutoff_for, struck, excitation, excitation_words, Excited, excite_of, both_counts, amount, Sounded, sound_of, After, render_of}
+use Rattle.waveguide.specs.String.{ratio_of, snap, non_linearity, strung}
+use Rattle.waveguide.specs.Kept.{Good}
+use Rattle.waveguide.specs.Kept.{words_at}
+use Rattle.string_voice.specs.StringVoice.{cutoff_for, struck, excitation, excitation_words, Excited, excite_of, amount, Sounded, sound_of, After, render_of}
 use Rattle.waveguide.proofs.Steps.{wrap, At}
 use Rattle.waveguide.proofs.Blocks.{ratio_for, strung_draws}
 use Rattle.string_voice.proofs.Excitations.{excitation_draws}
@@ -143,7 +145,7 @@ render_draws k v n lines temp temp2 out aux g lt l2 lo la =
     (λ e h.
     let m = sound_of k e.voice lines e.temp2 out in
     subst
-    (λ (t : String). Draws (dispersion_words k t n) (Left k v n) (m >>= λ s. ret record { voice = s.voice; lines = s.lines; temp = e.temp; temp2 = e.temp2; out = s.out; aux = e.aux; counts = both_counts e.counts s.counts }))
+    (λ (t : String). Draws (dispersion_words k t n) (Left k v n) (m >>= λ s. ret record { voice = s.voice; lines = s.lines; temp = e.temp; temp2 = e.temp2; out = s.out; aux = e.aux; counts = record e.counts { dispersion = s.counts.dispersion } }))
     h.string
     (draws_then (dispersion_words k e.voice.string n) (SecondHalf k e.voice n) (Left k v n) m _
     (sound_draws k e.voice n lines e.temp2 out (subst⁻¹ (λ (t : String). Good (t, lines)) h.string g) h.temp2 lo)

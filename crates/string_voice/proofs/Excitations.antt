@@ -15,17 +15,17 @@ use Rattle.ground.proofs.Draw.{Draws, draws_then, draws_always, Always, always_r
 use Rattle.ground.proofs.Frames.{Any, frames_draws_each}
 use Rattle.noise.specs.declared.excitation.Knobs.{Knobs}
 use Rattle.noise.specs.declared.excitation.Counts.{Counts}
-use Rattle.noise.specs.Excitation.{dust_frequency, silence}
+use Rattle.noise.specs.Excitation.{dust_frequency, fill_step, silence}
 use Rattle.noise.specs.Settling.{SilentFrom}
 use Rattle.noise.proofs.Drawn.{dusted_draws}
-use Rattle.string_voice.specs.StringVoice.{noise_step, burst, excitation, excitation_words, excitation_counts}
+use Rattle.string_voice.specs.StringVoice.{drawn_noise, burst, excitation, excitation_words, excitation_counts}
 
 burst_draws : (m n : ℕ) (temp : List Float) → length temp ≡ n → m ≤ n → Draws m (λ t. length t ≡ n) (burst m temp)
 unfolding burst
 burst_draws m n temp e l =
     let quiet = silence temp in
-    draws_then m (λ q. Any q.0 × (length q.1 ≡ length quiet)) (λ t. length t ≡ n) (frames noise_step tt (take m quiet) quiet) _
-    (frames_draws_each noise_step Any (λ s x y h. (0, refl, λ w. (refl, tt))) m tt (take m quiet) quiet (simp (length-take, length-replicate) (omega arith)) tt)
+    draws_then m (λ q. Any q.0 × (length q.1 ≡ length quiet)) (λ t. length t ≡ n) (frames (fill_step drawn_noise) tt (take m temp) quiet) _
+    (frames_draws_each (fill_step drawn_noise) Any (λ s x y h. (0, refl, λ w. (refl, tt))) m tt (take m temp) quiet (simp (length-take, length-replicate) (omega arith)) tt)
     (λ q p. p.1 ∙ length-replicate (length temp) c0 ∙ e)
 
 pub excitation_draws : (sustain : Bool) (k : Knobs) (left n : ℕ) (temp : List Float) → length temp ≡ n
@@ -35,20 +35,20 @@ excitation_draws true k left n temp e = dusted_draws (dust_frequency k.brightnes
 excitation_draws false k left n temp e = rw e (burst_draws (min left n) n temp e (omega arith))
 
 -- ---- behind the noise stands what stood there
-noise_beyond : (xs ys : List Float) (k : ℕ) → length xs ≤ k → Always (λ q. get_or q.1 k nan ≡ get_or ys k nan) (frames noise_step tt xs ys)
+noise_beyond : (xs ys : List Float) (k : ℕ) → length xs ≤ k → Always (λ q. get_or q.1 k nan ≡ get_or ys k nan) (frames (fill_step drawn_noise) tt xs ys)
 unfolding frames
 noise_beyond [] ys k l = refl
 noise_beyond (x ∷ xs) [] k l = refl
 noise_beyond (x ∷ xs) (y ∷ ys) zero l = absurd (not-suc-le-zero l)
 noise_beyond (x ∷ xs) (y ∷ ys) (suc k) l =
-    λ w. always_bind (λ q. get_or q.1 k nan ≡ get_or ys k nan) _ (frames noise_step tt xs ys) _ (noise_beyond xs ys k (le_of_suc-le-suc l)) (λ q p. p)
+    λ w. always_bind (λ q. get_or q.1 k nan ≡ get_or ys k nan) _ (frames (fill_step drawn_noise) tt xs ys) _ (noise_beyond xs ys k (le_of_suc-le-suc l)) (λ q p. p)
 
 burst_beyond : (m k : ℕ) (temp : List Float) → m ≤ k → Always (λ t. get_or t k nan ≡ get_or (silence temp) k nan) (burst m temp)
 unfolding burst
 burst_beyond m k temp l =
     let quiet = silence temp in
-    always_bind (λ q. get_or q.1 k nan ≡ get_or quiet k nan) _ (frames noise_step tt (take m quiet) quiet) _
-    (noise_beyond (take m quiet) quiet k (simp length-take (omega arith))) (λ q p. p)
+    always_bind (λ q. get_or q.1 k nan ≡ get_or quiet k nan) _ (frames (fill_step drawn_noise) tt (take m temp) quiet) _
+    (noise_beyond (take m temp) quiet k (simp length-take (omega arith))) (λ q p. p)
 
 pub excitation_silent : (sustain : Bool) (k : Knobs) (left : ℕ) (temp : List Float) (word : ℕ) {t : List Float} {w : ℕ}
     → run (excitation sustain k left temp) word ≡ record { value = t; word = w } → SilentFrom (excitation_words sustain left (length temp)) t

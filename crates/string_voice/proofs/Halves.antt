@@ -16,8 +16,9 @@ use Rattle.noise.specs.declared.excitation.Knobs.{Knobs}
 use Rattle.noise.specs.declared.excitation.Counts.{Counts}
 use Rattle.noise.specs.Excitation.{raised, added}
 use Rattle.string_voice.specs.declared.string_voice.StringVoice.{StringVoice}
-use Rattle.waveguide.specs.String.{non_linearity, strung, Good}
-use Rattle.string_voice.specs.StringVoice.{struck, excitation, excitation_words, excitation_counts, Excited, excite_of, both_counts, amount, sound_of, render_of}
+use Rattle.waveguide.specs.String.{non_linearity, strung}
+use Rattle.waveguide.specs.Kept.{Good}
+use Rattle.string_voice.specs.StringVoice.{struck, excitation, excitation_words, excitation_counts, Excited, excite_of, amount, sound_of, render_of}
 use Rattle.string_voice.proofs.Excitations.{excitation_draws}
 
 module _ (k : Knobs) (v s : StringVoice) (temp temp2 aux : List Float) (word : ℕ) where
@@ -67,7 +68,7 @@ module _ (k : Knobs) (v : StringVoice) (lines temp temp2 out aux : List Float) (
       → run (excite_of k v temp temp2 aux) word ≡ record { value = record { voice = e; temp = temp'; temp2 = temp2'; aux = aux'; counts = n }; word = w }
       → run (sound_of k e lines temp2' out) w ≡ record { value = record { voice = r; lines = lines'; out = out'; counts = m }; word = w' }
       → run (render_of k v lines temp temp2 out aux) word ≡ record {
-        value = record { voice = r; lines = lines'; temp = temp'; temp2 = temp2'; out = out'; aux = aux'; counts = both_counts n m };
+        value = record { voice = r; lines = lines'; temp = temp'; temp2 = temp2'; out = out'; aux = aux'; counts = record n { dispersion = m.dispersion } };
         word = w';
       }
   unfolding render_of

@@ -5,4 +5,3 @@ pub mod Halves
 pub mod OneLoop
 pub mod Drawn
 pub mod Amounts
-pub mod Ledger

@@ -3,7 +3,6 @@ use Rattle.std.specs.Prelude.{Bool, true, false, ◌||◌, cond, List, ℕ, ◌-
 use Rattle.std.specs.Float.Ieee.{lt}
 use Rattle.ground.specs.F32.{◌⊖◌, ◌⊗◌, ◌⊘◌, c0, c0·24, c0·26, c0·499, c0·5, c1, c1·35135, c2, c4, c4·166, c6, c8, c72}
 use Rattle.ground.specs.Draw.{Draw, ret, ask, counted, ◌>>=◌}
-use Rattle.ground.specs.Frames.{frames}
 use Rattle.ground.specs.Floats.{whole_part, min_f}
 use Rattle.ground.specs.Random.{noise_of}
 use Rattle.utils.specs.Units.{semitones_to_ratio}
@@ -11,9 +10,9 @@ use Rattle.utils.specs.Filter.{svf_new, svf_init, svf_setFQ, svf_buffer}
 use Rattle.utils.specs.declared.filter.FrequencyApproximation.TheVariants.{Dirty}
 use Rattle.noise.specs.declared.excitation.Knobs.{Knobs}
 use Rattle.noise.specs.declared.excitation.Counts.{Counts}
-use Rattle.noise.specs.Excitation.{raised, dust_frequency, dusted, silence, added}
+use Rattle.noise.specs.Excitation.{raised, dust_frequency, dusted, filled, silence, added}
 use Rattle.string_voice.specs.declared.string_voice.StringVoice.{StringVoice}
-use Rattle.waveguide.specs.String.{string_new, init_of, reset_of, non_linearity, strung}
+use Rattle.waveguide.specs.String.{string_new, string_reset, string_init, non_linearity, strung}
 
 -- ---- StringVoice::new, init and reset: the voice, and its lines
 
@@ -22,14 +21,14 @@ voice_new = record { excitation_filter = svf_new; string = string_new; remaining
 
 unfoldable pub voice_init : StringVoice → Float → List Float → StringVoice × List Float
 voice_init v rate lines =
-    let s = init_of v.string rate lines in
+    let s = string_init v.string rate lines in
     (record { excitation_filter = svf_init v.excitation_filter; string = s.0; remaining_noise_samples = 0 }, s.1)
 
 -- reset leaves the excitation filter and what is left of the noise
 unfoldable pub voice_reset : StringVoice → List Float → StringVoice × List Float
 voice_reset v lines =
-    let s = reset_of v.string lines in
-    (record { excitation_filter = v.excitation_filter; string = s.0; remaining_noise_samples = v.remaining_noise_samples }, s.1)
+    let s = string_reset v.string lines in
+    (record v { string = s.0 }, s.1)
 
 -- ---- the first half of render
 
@@ -44,19 +43,18 @@ cutoff_for k = min_f (c4 ⊗ k.f0 ⊗ semitones_to_ratio (exciter_semitones (rai
 unfoldable pub struck : Knobs → StringVoice → StringVoice
 struck k v =
     cond (k.trigger || k.sustain)
-    (record {
+    (record v {
       excitation_filter = svf_setFQ v.excitation_filter (cutoff_for k) (cond k.sustain c1 c0·5) Dirty;
-      string = v.string;
       remaining_noise_samples = whole_part (c1 ⊘ k.f0);
     })
     v
 
 -- without sustain silence, and noise in its first m frames
-abbrev pub noise_step : Unit {0} → Float → Float → Draw (Unit {0} × Float)
-noise_step s x y = ask (λ w. ret (s, noise_of w))
+abbrev pub drawn_noise : Draw Float
+drawn_noise = ask (λ w. ret (noise_of w))
 
 unfoldable pub burst : ℕ → List Float → Draw (List Float)
-burst m temp = let quiet = silence temp in frames noise_step tt (take m quiet) quiet >>= λ q. ret q.1
+burst m temp = filled drawn_noise (take m temp) (silence temp)
 
 -- with sustain dust, else what is left of the noise as far as the block has frames
 unfoldable pub excitation : Bool → Knobs → ℕ → List Float → Draw (List Float)
@@ -78,23 +76,14 @@ excitation_words sustain left n = cond sustain n (min left n)
 abbrev pub excitation_counts : Bool → ℕ → Counts
 excitation_counts sustain drawn = record { burst = cond sustain 0 drawn; dust = cond sustain drawn 0; dispersion = 0 }
 
--- the voice after the burst, with the filter's memory
-abbrev pub kept_of : Knobs → StringVoice → ℕ → StringVoice
-kept_of k v n =
-    record {
-      excitation_filter = v.excitation_filter;
-      string = v.string;
-      remaining_noise_samples = cond k.sustain v.remaining_noise_samples (v.remaining_noise_samples - min v.remaining_noise_samples n);
-    }
-
 unfoldable pub excite_of : Knobs → StringVoice → List Float → List Float → List Float → Draw Excited
 excite_of k v temp temp2 aux =
     let s = struck k v in
-    counted (excitation k.sustain k s.remaining_noise_samples temp) >>= λ t.
+    let left = s.remaining_noise_samples in
+    counted (excitation k.sustain k left temp) >>= λ t.
     let f = svf_buffer s.excitation_filter t.0 temp2 in
-    let w = kept_of k s (length temp) in
     ret record {
-      voice = record { excitation_filter = f.0; string = w.string; remaining_noise_samples = w.remaining_noise_samples };
+      voice = record s { excitation_filter = f.0; remaining_noise_samples = cond k.sustain left (left - min left (length temp)) };
       temp = t.0;
       temp2 = f.1;
       aux = added f.1 aux;
@@ -118,16 +107,13 @@ unfoldable pub sound_of : Knobs → StringVoice → List Float → List Float �
 sound_of k v lines temp2 out =
     counted (strung (non_linearity (amount k.structure)) k.f0 (raised k.accent k.brightness) (raised k.accent k.damping) (v.string, lines) temp2 out) >>= λ s.
     ret record {
-      voice = record { excitation_filter = v.excitation_filter; string = s.0.0.0; remaining_noise_samples = v.remaining_noise_samples };
+      voice = record v { string = s.0.0.0 };
       lines = s.0.0.1;
       out = s.0.1;
       counts = record { burst = 0; dust = 0; dispersion = s.1 };
     }
 
 -- ---- StringVoice::render: what it leaves, the voice, its lines and each buffer, and the words that it drew
-abbrev pub both_counts : Counts → Counts → Counts
-both_counts e s = record { burst = e.burst; dust = e.dust; dispersion = s.dispersion }
-
 pub record After : Type 0 where
   pub voice : StringVoice
   pub lines : List Float
@@ -141,4 +127,5 @@ unfoldable pub render_of : Knobs → StringVoice → List Float → List Float �
 render_of k v lines temp temp2 out aux =
     excite_of k v temp temp2 aux >>= λ e.
     sound_of k e.voice lines e.temp2 out >>= λ s.
-    ret record { voice = s.voice; lines = s.lines; temp = e.temp; temp2 = e.temp2; out = s.out; aux = e.aux; counts = both_counts e.counts s.counts }
+    let counts = record e.counts { dispersion = s.counts.dispersion } in
+    ret record { voice = s.voice; lines = s.lines; temp = e.temp; temp2 = e.temp2; out = s.out; aux = e.aux; counts = counts }

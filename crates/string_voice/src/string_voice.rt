@@ -1,7 +1,7 @@
 // Extended Karplus-Strong, with all the niceties from Rings.
 ghost use Rattle.std.specs.Prelude.{◌≡◌, cond, ◌≤◌, ◌-◌, ◌^◌, min, length};
 ghost use Rattle.ground.specs.Draw.{run, Ran};
-ghost use Rattle.waveguide.specs.String.{Good};
+ghost use Rattle.waveguide.specs.Kept.{Good};
 ghost use Rattle.noise.specs.Excitation.{Alike};
 ghost use Rattle.noise.specs.Buffers.{IsAlike, IsSame};
 ghost use Rattle.string_voice.specs.StringVoice.{voice_new, voice_init, voice_reset, cutoff_for, struck, burst, excitation, excitation_words, excitation_counts, Excited, excite_of, amount, Sounded, sound_of, After, render_of};

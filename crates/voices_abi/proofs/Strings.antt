@@ -14,7 +14,8 @@ use Rattle.ground.proofs.Bools.{and_true}
 use Rattle.ground.proofs.Draw.{run_then, Always, always_bind, draws_always}
 use Rattle.noise.specs.declared.excitation.Knobs.{Knobs}
 use Rattle.string_voice.specs.declared.string_voice.StringVoice.{StringVoice}
-use Rattle.waveguide.specs.String.{Good, string_init}
+use Rattle.waveguide.specs.String.{string_reset, string_init}
+use Rattle.waveguide.specs.Kept.{Good}
 use Rattle.string_voice.specs.StringVoice.{voice_new, voice_init, render_of}
 use Rattle.string_voice.proofs.Drawn.{Left, render_draws}
 use Rattle.voices_abi.specs.Blocks.{times, alike_sizes}
@@ -47,7 +48,7 @@ module _ (lines temp temp2 out aux : List Float) (fit : sizes_fit (length lines)
   lines_size = eqb-true (length lines) 1280 fitting.0
 
   pub opened_sized : (rate : Float) → Sized (length out) (opened rate lines temp temp2 out aux)
-  unfolding voice_init string_init
+  unfolding voice_init string_init string_reset
   opened_sized rate =
       let f : Alike (length temp) (length temp2) (length out) (length aux) = alike (length temp) (length temp2) (length out) (length aux) fitting.1 in
       record {

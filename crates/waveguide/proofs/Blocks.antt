@@ -12,7 +12,9 @@ use Rattle.waveguide.specs.declared.string.StringNonLinearity.{StringNonLinearit
 use Rattle.waveguide.specs.declared.string.Prepared.{Prepared}
 use Rattle.waveguide.specs.declared.string.Damping.{Damping}
 use Rattle.waveguide.specs.declared.string.String.{String}
-use Rattle.waveguide.specs.String.{amount_of, ratio_of, snap, damping_of, params_of, tuned, prepared_of, words_at, frame_of, strung, Good}
+use Rattle.waveguide.specs.String.{amount_of, ratio_of, snap, damping_of, params_of, tuned, prepared_of, frame_of, strung}
+use Rattle.waveguide.specs.Kept.{Good}
+use Rattle.waveguide.specs.Kept.{words_at}
 use Rattle.waveguide.proofs.Steps.{wrap, At, frames_draw}
 
 tuned_good : (s : String) (f0 : Float) (d : Damping) (lines : List Float) (t : String) → t ≡ tuned s f0 d → Good (s, lines) → Good (t, lines)
@@ -28,7 +30,7 @@ prepared_good shape f0 brightness damping n s lines b e g =
 module _ (shape : StringNonLinearity) (f0 brightness damping : Float) (s : String) (lines xs ys : List Float) (word : ℕ) where
   pub processed : {b : Prepared} {r : Ran (((String × List Float) × List Float) × ℕ)} → b ≡ prepared_of s shape f0 brightness damping (length ys)
       → run (counted (frames (frame_of b.block.shape b.block.params) (b.string, lines) xs ys)) word ≡ r → run (counted (strung shape f0 brightness damping (s, lines) xs ys)) word ≡ r
-  unfolding strung prepared_of
+  unfolding strung
   processed eb e = ap (λ (b : Prepared). run (counted (frames (frame_of b.block.shape b.block.params) (b.string, lines) xs ys)) word) (sym eb) ∙ e
 
 -- a block of n frames: the words that its steps draw, the phase behind it, and the output's length
@@ -40,7 +42,7 @@ pub strung_draws : (shape : StringNonLinearity) (f0 brightness damping : Float) 
     → Draws (drawn (wrap (ratio_for f0)) (words_at shape (ratio_for f0)) n (snap (ratio_of f0) s.0.src_phase))
     (λ q. At (after (wrap (ratio_for f0)) n (snap (ratio_of f0) s.0.src_phase)) q.0 × (length q.1 ≡ length ys))
     (strung shape f0 brightness damping s xs ys)
-unfolding strung params_of tuned
+unfolding strung prepared_of params_of tuned
 strung_draws shape f0 brightness damping n s xs ys e g =
     let d = damping_of f0 brightness damping in
     frames_draw shape (params_of s.0 f0 (amount_of shape) d (length ys)) n (tuned s.0 f0 d, s.1) xs ys e

@@ -15,7 +15,8 @@ use Rattle.utils.specs.ParameterInterpolator.{taken}
 use Rattle.waveguide.specs.declared.string.StringNonLinearity.{StringNonLinearity}
 use Rattle.waveguide.specs.declared.string.Params.{Params}
 use Rattle.waveguide.specs.declared.string.String.{String}
-use Rattle.waveguide.specs.String.{amount_of, damping_of, params_of, ratio_of, snap, tuned, bent, step_of, at_phase, moved, frame_of, strung, steps, KeptDelay}
+use Rattle.waveguide.specs.String.{amount_of, damping_of, params_of, ratio_of, snap, tuned, prepared_of, bent, step_of, moved, frame_of, strung}
+use Rattle.waveguide.specs.Kept.{steps, KeptDelay}
 use Rattle.waveguide.proofs.Steps.{wrap}
 
 step_keeps : (shape : StringNonLinearity) (p : Params) (x : Float) (s : String × List Float)
@@ -43,8 +44,8 @@ moved_stands : (shape : StringNonLinearity) (p : Params) (x : Float) (s : String
 unfolding moved
 moved_stands shape p x s =
     let q = s.0.src_phase ⊕ p.src_ratio in
-    either (lt c1 q) (q ⊖ c1) q (s.0.delay ⊕ p.increment) s.0.delay (step_of shape p x (at_phase s.0 (q ⊖ c1), s.1)) (ret (at_phase s.0 q, s.1))
-    (step_keeps shape p x (at_phase s.0 (q ⊖ c1), s.1)) (refl, refl)
+    either (lt c1 q) (q ⊖ c1) q (s.0.delay ⊕ p.increment) s.0.delay (step_of shape p x (record s.0 { src_phase = q ⊖ c1 }, s.1)) (ret (record s.0 { src_phase = q }, s.1))
+    (step_keeps shape p x (record s.0 { src_phase = q ⊖ c1 }, s.1)) (refl, refl)
 
 frame_stands : (shape : StringNonLinearity) (p : Params) (g : Float × Float) (s : String × List Float) (x y : Float) → Stands g s
     → Always (λ r. Stands (onward p g) r.0) (frame_of shape p s x y)
@@ -73,7 +74,7 @@ onward_taken p (suc n) f d = go (lt c1 (f ⊕ p.src_ratio)) (onward_taken p n)
         h (f ⊕ p.src_ratio) d ∙ ap (λ (k : ℕ). taken k d p.increment) e
 
 pub kept_delay : KeptDelay
-unfolding KeptDelay strung tuned
+unfolding KeptDelay strung prepared_of tuned
 kept_delay shape f0 brightness damping s xs ys word =
     let d = damping_of f0 brightness damping in
     let p = params_of s.0 f0 (amount_of shape) d (length ys) in

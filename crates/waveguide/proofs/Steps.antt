@@ -26,7 +26,10 @@ use Rattle.waveguide.specs.declared.string.Params.{Params}
 use Rattle.waveguide.specs.declared.string.String.{String}
 use Rattle.waveguide.specs.declared.string.Heard.{Heard}
 use Rattle.waveguide.specs.declared.string.Underway.{Underway}
-use Rattle.waveguide.specs.String.{bent, plain, allpassed, main_of, stretched, heard, bridged, step_of, at_phase, words_of, words_at, moved, frame_of, guess_of, guess_after, begun, Ahead, Good}
+use Rattle.waveguide.specs.String.{bent, plain, allpassed, main_of, stretched, heard, bridged, step_of, moved, frame_of}
+use Rattle.waveguide.specs.Kept.{Good}
+use Rattle.waveguide.specs.Underway.{guess_of, guess_after, begun, Ahead}
+use Rattle.waveguide.specs.Kept.{words_of, words_at}
 
 module _ (shape : StringNonLinearity) (p : Params) (x : Float) (t : String) (word : ℕ) (lines : List Float) where
   pub stepped : {delay noise : Float} {word' : ℕ} {h : Heard} {lines' : List Float} {held : Float} {dc : DcBlocker} {o : Svf × Float} {next : ℕ} {line' : List Float} {bridge : Float}
@@ -39,7 +42,7 @@ module _ (shape : StringNonLinearity) (p : Params) (x : Float) (t : String) (wor
       → bridge ≡ bridged shape h.s t.curved_bridge
       → run (step_of shape p x (t, lines)) word ≡ record {
         value = (
-          record {
+          record t {
             string = next;
             stretch = h.stretch;
             iir_damping_filter = o.0;
@@ -47,10 +50,8 @@ module _ (shape : StringNonLinearity) (p : Params) (x : Float) (t : String) (wor
             delay = t.delay ⊕ p.increment;
             dispersion_noise = noise;
             curved_bridge = bridge;
-            src_phase = t.src_phase;
             out_sample_0 = o.1;
             out_sample_1 = t.out_sample_0;
-            sample_rate_hz = t.sample_rate_hz;
           },
           line' ++ drop 1024 lines',
         );
@@ -166,7 +167,7 @@ step_draws shape p x s g =
       };
     })
 
-pub phase_good : (t : String) (p : Float) (lines : List Float) → Good (t, lines) → Good (at_phase t p, lines)
+pub phase_good : (t : String) (p : Float) (lines : List Float) → Good (t, lines) → Good (record t { src_phase = p }, lines)
 phase_good t p lines g = record { size = g.size; string = g.string; stretch = g.stretch }
 
 -- a test of the definition, taken apart
@@ -180,8 +181,8 @@ moved_draws : (shape : StringNonLinearity) (p : Params) (x : Float) (s : String 
 unfolding moved
 moved_draws shape p x s g =
     let q = s.0.src_phase ⊕ p.src_ratio in
-    either (lt c1 q) (words_of shape) 0 (q ⊖ c1) q (step_of shape p x (at_phase s.0 (q ⊖ c1), s.1)) (ret (at_phase s.0 q, s.1))
-    (step_draws shape p x (at_phase s.0 (q ⊖ c1), s.1) (phase_good s.0 (q ⊖ c1) s.1 g))
+    either (lt c1 q) (words_of shape) 0 (q ⊖ c1) q (step_of shape p x (record s.0 { src_phase = q ⊖ c1 }, s.1)) (ret (record s.0 { src_phase = q }, s.1))
+    (step_draws shape p x (record s.0 { src_phase = q ⊖ c1 }, s.1) (phase_good s.0 (q ⊖ c1) s.1 g))
     (refl, record { phase = refl; good = phase_good s.0 q s.1 g })
 
 frame_draws : (shape : StringNonLinearity) (p : Params) (g : Float) (s : String × List Float) (x y : Float) → At g s

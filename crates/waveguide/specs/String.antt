@@ -1,17 +1,17 @@
 -- string.rs: a string's state beside its lines, the string line of 1,024 numbers and the stretch line of 256 behind it. Assumes nothing.
-use Rattle.std.specs.Prelude.{◌≡◌, Bool, false, cond, ◌&&◌, List, ℕ, zero, suc, ◌+◌, ◌<◌, min, length, Float}
+use Rattle.std.specs.Prelude.{Bool, false, cond, ◌&&◌, List, ℕ, ◌+◌, length, Float}
 use Rattle.std.specs.Float.Ieee.{lt, le, neg}
 use Rattle.resources.specs.Table.{entry}
 use Rattle.resources.specs.Svf.{svf_shift}
 use Rattle.ground.specs.F32.{◌⊕◌, ◌⊖◌, ◌⊗◌, ◌⊘◌, c0, c0·025, c0·06, c0·1, c0·15, c0·225, c0·308, c0·408, c0·499, c0·4999, c0·5, c0·618, c0·75, c0·94, c0·95, c0·9999, c0·01, c1, c1·5, c2, c2·1, c4, c12, c20, c24, c60, c84, c100, c128, c160, c255, c1020, c48000}
-use Rattle.ground.specs.Draw.{Draw, ret, ask, next, value, ◌>>=◌}
+use Rattle.ground.specs.Draw.{Draw, ret, ask, ◌>>=◌}
 use Rattle.ground.specs.Frames.{frames}
 use Rattle.ground.specs.Part.{part, within}
 use Rattle.ground.specs.Floats.{whole_part, fraction_of, min_f, clamp_f, abs_f}
 use Rattle.ground.specs.Random.{float_of}
 use Rattle.utils.specs.Utils.{one_pole, crossfade_of}
 use Rattle.utils.specs.Units.{semitones_to_ratio}
-use Rattle.utils.specs.ParameterInterpolator.{interpolator_of, taken}
+use Rattle.utils.specs.ParameterInterpolator.{interpolator_of}
 use Rattle.utils.specs.Filter.{svf_new, svf_init, svf_setFQ, svf_of, dc_init, dc_of}
 use Rattle.utils.specs.DelayLine.{cleared, written, allpass_of, read_frac, read_hermite}
 use Rattle.utils.specs.declared.filter.FrequencyApproximation.TheVariants.{Fast}
@@ -22,9 +22,8 @@ use Rattle.waveguide.specs.declared.string.Damping.{Damping}
 use Rattle.waveguide.specs.declared.string.Params.{Params}
 use Rattle.waveguide.specs.declared.string.Heard.{Heard}
 use Rattle.waveguide.specs.declared.string.Prepared.{Prepared}
-use Rattle.waveguide.specs.declared.string.Underway.{Underway}
 
--- ---- String::new, init and reset: the state; the lines are 1,280 zeros after each
+-- ---- String::new, and reset and init with the lines
 
 unfoldable pub string_new : String
 string_new =
@@ -42,45 +41,17 @@ string_new =
       sample_rate_hz = c48000;
     }
 
-unfoldable pub string_init : String → Float → String
-string_init s rate =
-    record {
-      string = 0;
-      stretch = 0;
-      iir_damping_filter = svf_init s.iir_damping_filter;
-      dc_blocker = dc_init (c1 ⊖ c20 ⊘ rate);
-      delay = c100;
-      dispersion_noise = c0;
-      curved_bridge = c0;
-      src_phase = c0;
-      out_sample_0 = c0;
-      out_sample_1 = c0;
-      sample_rate_hz = rate;
-    }
-
 -- reset leaves the damping filter, the DC blocker, the delay and the sample rate
-unfoldable pub string_reset : String → String
-string_reset s =
-    record {
-      string = 0;
-      stretch = 0;
-      iir_damping_filter = s.iir_damping_filter;
-      dc_blocker = s.dc_blocker;
-      delay = s.delay;
-      dispersion_noise = c0;
-      curved_bridge = c0;
-      src_phase = c0;
-      out_sample_0 = c0;
-      out_sample_1 = c0;
-      sample_rate_hz = s.sample_rate_hz;
-    }
+unfoldable pub string_reset : String → List Float → String × List Float
+string_reset s lines =
+    let t = record s { string = 0; stretch = 0; dispersion_noise = c0; curved_bridge = c0; src_phase = c0; out_sample_0 = c0; out_sample_1 = c0 } in
+    (t, (cleared lines).1)
 
--- with the lines cleared
-abbrev pub init_of : String → Float → List Float → String × List Float
-init_of s rate lines = (string_init s rate, (cleared lines).1)
-
-abbrev pub reset_of : String → List Float → String × List Float
-reset_of s lines = (string_reset s, (cleared lines).1)
+unfoldable pub string_init : String → Float → List Float → String × List Float
+string_init s rate lines =
+    let f = svf_init s.iir_damping_filter in
+    let r = string_reset s lines in
+    (record r.0 { iir_damping_filter = f; dc_blocker = dc_init (c1 ⊖ c20 ⊘ rate); delay = c100; sample_rate_hz = rate }, r.1)
 
 -- ---- String::process, before its loop
 
@@ -91,11 +62,6 @@ non_linearity amount = cond (le amount c0) (CurvedBridge (neg amount)) (Dispersi
 abbrev pub amount_of : StringNonLinearity → Float
 amount_of (CurvedBridge a) = a
 amount_of (Dispersion a) = a
-
--- the words that a step draws: one by the dispersion, none by the bridge
-abbrev pub words_of : StringNonLinearity → ℕ
-words_of (CurvedBridge a) = 0
-words_of (Dispersion a) = 1
 
 -- 1/f0 held to what the line holds
 unfoldable pub delay_of : Float → Float
@@ -130,8 +96,7 @@ unfoldable pub compensation_of : Float → Float
 compensation_of cutoff =
     let x = clamp_f cutoff c0 c255 in
     let i = whole_part x in
-    let a = entry svf_shift i in
-    a ⊕ (entry svf_shift (i + 1) ⊖ a) ⊗ fraction_of x
+    crossfade_of (entry svf_shift i) (entry svf_shift (i + 1)) (fraction_of x)
 
 unfoldable pub noise_amount_of : Float → Float
 noise_amount_of amount = let root = cond (lt c0·75 amount) (c4 ⊗ (amount ⊖ c0·75)) c0 in root ⊗ root ⊗ c0·1
@@ -153,20 +118,7 @@ params_of s f0 amount d n =
 
 -- the state with the phase snapped and the damping filter set
 unfoldable pub tuned : String → Float → Damping → String
-tuned s f0 d =
-    record {
-      string = s.string;
-      stretch = s.stretch;
-      iir_damping_filter = svf_setFQ s.iir_damping_filter d.f c0·5 Fast;
-      dc_blocker = s.dc_blocker;
-      delay = s.delay;
-      dispersion_noise = s.dispersion_noise;
-      curved_bridge = s.curved_bridge;
-      src_phase = snap (ratio_of f0) s.src_phase;
-      out_sample_0 = s.out_sample_0;
-      out_sample_1 = s.out_sample_1;
-      sample_rate_hz = s.sample_rate_hz;
-    }
+tuned s f0 d = record s { iir_damping_filter = svf_setFQ s.iir_damping_filter d.f c0·5 Fast; src_phase = snap (ratio_of f0) s.src_phase }
 
 -- both
 unfoldable pub prepared_of : String → StringNonLinearity → Float → Float → Float → ℕ → Prepared
@@ -181,37 +133,6 @@ unfoldable pub bent : StringNonLinearity → Params → Float → Float → Floa
 bent (CurvedBridge a) p delay noise bridge = ret (delay ⊗ (c1 ⊖ bridge ⊗ p.bridge_curving), noise)
 bent (Dispersion a) p delay noise bridge =
     ask (λ w. let n = one_pole noise (float_of w ⊖ c0·5) p.noise_filter in ret (delay ⊗ (c1 ⊕ n ⊗ p.noise_amount), n))
-
--- the dispersion noise after the word that is drawn next, and a string that has it at hand
-unfoldable pub noise_after : Params → Float → ℕ → Float
-noise_after p noise w = one_pole noise (float_of (next w) ⊖ c0·5) p.noise_filter
-
-abbrev pub Ahead : Params → Underway → Type 0
-Ahead p v = v.next_noise ≡ noise_after p v.string.dispersion_noise v.word
-
--- a guess at the next delay's whole part: the bridge's is this step's, the dispersion makes none. It moves no number, only the time that a step takes.
-unfoldable pub guess_of : StringNonLinearity → Float → ℕ
-guess_of (CurvedBridge a) delay = whole_part delay
-guess_of (Dispersion a) delay = 0
-
-abbrev pub guess_after : StringNonLinearity → Params → Underway → ℕ
-guess_after shape p v =
-    let t = v.string in
-    guess_of shape (value (bent shape p (t.delay ⊕ p.increment) t.dispersion_noise t.curved_bridge) v.word).0
-
-abbrev pub guess_at : StringNonLinearity → Params → Underway → ℕ
-guess_at shape p v = cond (lt c1 (v.string.src_phase ⊕ p.src_ratio)) (guess_after shape p v) v.guess
-
--- a string as its loop begins
-unfoldable pub begun : Params → String → ℕ → Underway
-begun p s word =
-    record {
-      string = s;
-      word = word;
-      next_noise = noise_after p s.dispersion_noise word;
-      guess = whole_part s.delay;
-      drawn = 0;
-    }
 
 -- the string line read by the cubic
 unfoldable pub plain : String → Float → List Float → Heard × List Float
@@ -255,7 +176,7 @@ step_of shape p x s =
     let o = svf_of t.iir_damping_filter dc.y in
     let l = within 0 1024 (λ line. written line t.string o.1) h.1 in
     ret (
-      record {
+      record t {
         string = l.0;
         stretch = h.0.stretch;
         iir_damping_filter = o.0;
@@ -263,41 +184,19 @@ step_of shape p x s =
         delay = delay;
         dispersion_noise = b.1;
         curved_bridge = bridged shape h.0.s t.curved_bridge;
-        src_phase = t.src_phase;
         out_sample_0 = o.1;
         out_sample_1 = t.out_sample_0;
-        sample_rate_hz = t.sample_rate_hz;
       },
       l.1,
     )
 
 -- ---- the loop
 
-abbrev pub at_phase : String → Float → String
-at_phase s phase =
-    record {
-      string = s.string;
-      stretch = s.stretch;
-      iir_damping_filter = s.iir_damping_filter;
-      dc_blocker = s.dc_blocker;
-      delay = s.delay;
-      dispersion_noise = s.dispersion_noise;
-      curved_bridge = s.curved_bridge;
-      src_phase = phase;
-      out_sample_0 = s.out_sample_0;
-      out_sample_1 = s.out_sample_1;
-      sample_rate_hz = s.sample_rate_hz;
-    }
-
 -- a frame moves the phase, and steps where it passes 1
 unfoldable pub moved : StringNonLinearity → Params → Float → String × List Float → Draw (String × List Float)
 moved shape p x s =
     let phase = s.0.src_phase ⊕ p.src_ratio in
-    cond (lt c1 phase) (step_of shape p x (at_phase s.0 (phase ⊖ c1), s.1)) (ret (at_phase s.0 phase, s.1))
-
--- the words of a frame at a phase
-abbrev pub words_at : StringNonLinearity → Float → Float → ℕ
-words_at shape ratio phase = cond (lt c1 (phase ⊕ ratio)) (words_of shape) 0
+    cond (lt c1 phase) (step_of shape p x (record s.0 { src_phase = phase ⊖ c1 }, s.1)) (ret (record s.0 { src_phase = phase }, s.1))
 
 -- the last two samples, crossfaded, are added to the output
 unfoldable pub mixed : Float → String → Float
@@ -309,25 +208,5 @@ frame_of shape p s x y = moved shape p x s >>= λ t. ret (t, mixed y t.0)
 -- String::process, of the non-linearity chosen
 unfoldable pub strung : StringNonLinearity → Float → Float → Float → String × List Float → List Float → List Float → Draw ((String × List Float) × List Float)
 strung shape f0 brightness damping s xs ys =
-    let d = damping_of f0 brightness damping in
-    frames (frame_of shape (params_of s.0 f0 (amount_of shape) d (length ys))) (tuned s.0 f0 d, s.1) xs ys
-
--- ---- the delay that a block leaves
-
--- the string steps of n frames from a phase on
-unfoldable pub steps : Float → ℕ → Float → ℕ
-steps ratio zero phase = 0
-steps ratio (suc n) phase = let q = phase ⊕ ratio in cond (lt c1 q) 1 0 + steps ratio n (cond (lt c1 q) (q ⊖ c1) q)
-
--- 01 'Filters, lines and tables': the kept delay is the old delay with each increment actually taken added in turn, never the target
-unfoldable pub KeptDelay : Type 0
-KeptDelay = (shape : StringNonLinearity) (f0 brightness damping : Float) (s : String × List Float) (xs ys : List Float) (word : ℕ)
-    → let p = params_of s.0 f0 (amount_of shape) (damping_of f0 brightness damping) (length ys) in
-    (value (strung shape f0 brightness damping s xs ys) word).0.0.delay
-    ≡ taken (steps p.src_ratio (min (length xs) (length ys)) (snap (ratio_of f0) s.0.src_phase)) s.0.delay p.increment
-
--- what a string's state and its lines always are
-pub record Good (s : String × List Float) : Type 0 where
-  pub size : length s.1 ≡ 1280
-  pub string : s.0.string < 1024
-  pub stretch : s.0.stretch < 256
+    let b = prepared_of s.0 shape f0 brightness damping (length ys) in
+    frames (frame_of b.block.shape b.block.params) (b.string, s.1) xs ys

@@ -2,7 +2,10 @@
 ghost use Rattle.std.specs.Prelude.{◌≡◌, ◌+◌, ◌≤◌, ◌<◌, ◌^◌, length};
 ghost use Rattle.ground.specs.Draw.{run, Ran, counted};
 ghost use Rattle.ground.specs.Frames.{frames};
-ghost use Rattle.waveguide.specs.String.{string_new, init_of, reset_of, non_linearity, amount_of, words_of, words_at, delay_of, snap, damping_of, compensation_of, noise_amount_of, noise_after, Ahead, guess_of, guess_after, guess_at, begun, params_of, tuned, prepared_of, bent, plain, allpassed, main_of, stretched, heard, bridged, step_of, at_phase, moved, mixed, frame_of, strung, Good};
+ghost use Rattle.waveguide.specs.String.{string_new, string_reset, string_init, non_linearity, amount_of, delay_of, snap, damping_of, compensation_of, noise_amount_of, params_of, tuned, prepared_of, bent, plain, allpassed, main_of, stretched, heard, bridged, step_of, moved, mixed, frame_of, strung};
+ghost use Rattle.waveguide.specs.Kept.{Good};
+ghost use Rattle.waveguide.specs.Underway.{noise_after, Ahead, guess_of, guess_after, guess_at, begun};
+ghost use Rattle.waveguide.specs.Kept.{words_of, words_at};
 
 use utils::filter::{DcBlocker, FrequencyApproximation, Svf};
 
@@ -188,7 +191,7 @@ fn damping_of(f0: f32, brightness: f32, damping: f32) -> Damping
 }
 
 // The shift table read at a cutoff.
-#[tactic(auto, using(crate::proofs::Ranges::shift_in), unfolding(crate::specs::String::compensation_of, utils::specs::Utils::crossfade_of))]
+#[tactic(auto, using(crate::proofs::Ranges::shift_in), unfolding(crate::specs::String::compensation_of))]
 fn compensation_of(cutoff: f32) -> f32
     ensures { result ≡ compensation_of cutoff }
 {
@@ -262,7 +265,7 @@ impl String {
 
     #[tactic(auto, unfolding(crate::specs::String::string_init, crate::specs::String::string_reset))]
     pub fn init(self, sample_rate_hz: f32, lines: &mut [f32]) -> String
-        ensures { (result, lines.new) ≡ init_of self sample_rate_hz lines.old }
+        ensures { (result, lines.new) ≡ string_init self sample_rate_hz lines.old }
     {
         String {
             iir_damping_filter: self.iir_damping_filter.init(),
@@ -275,7 +278,7 @@ impl String {
 
     #[tactic(auto, unfolding(crate::specs::String::string_reset))]
     pub fn reset(self, lines: &mut [f32]) -> String
-        ensures { (result, lines.new) ≡ reset_of self lines.old }
+        ensures { (result, lines.new) ≡ string_reset self lines.old }
     {
         utils::delay_line::reset(lines);
         String {
@@ -321,7 +324,7 @@ impl String {
 
     // The state with another phase.
     fn at_phase(self, src_phase: f32) -> String
-        ensures { result ≡ at_phase self src_phase }
+        ensures { result ≡ record self { src_phase = src_phase } }
     {
         String { src_phase, ..self }
     }
@@ -384,7 +387,7 @@ impl String {
 
 impl Block {
     // The dispersion noise after the word that is drawn next.
-    #[tactic(auto, unfolding(crate::specs::String::noise_after))]
+    #[tactic(auto, unfolding(crate::specs::Underway::noise_after))]
     fn noise_after(self, noise: f32, word: u32) -> f32
         ensures { result ≡ noise_after self.params noise word }
     {
@@ -394,7 +397,7 @@ impl Block {
 
     // The delay and the dispersion noise of a step. That noise was worked out a step ago, so that the line's reading need not wait for it.
     #[inline(always)]
-    #[tactic(auto, unfolding(crate::specs::String::bent, crate::specs::String::guess_of, crate::specs::String::noise_after))]
+    #[tactic(auto, unfolding(crate::specs::String::bent, crate::specs::Underway::guess_of, crate::specs::Underway::noise_after))]
     fn bend(self, delay: f32, noise: f32, next_noise: f32, bridge: f32, word: u32) -> Bent
         requires { next_noise ≡ noise_after self.params noise word }
         ensures { (run (bent self.shape self.params delay noise bridge) word ≡ record { value = (result.delay, result.dispersion_noise); word = result.word })
@@ -532,7 +535,7 @@ impl Block {
     }
 
     // A string as its loop begins.
-    #[tactic(auto, unfolding(crate::specs::String::begun))]
+    #[tactic(auto, unfolding(crate::specs::Underway::begun))]
     pub fn begin(self, string: String, word: u32) -> Underway
         ensures { result ≡ begun self.params string word }
     {

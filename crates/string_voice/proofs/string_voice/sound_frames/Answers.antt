@@ -14,7 +14,8 @@ use Rattle.ground.proofs.Lead.{lead_begin, lead_turn, lead_puts, lead_end}
 use Rattle.utils.specs.Filter.{svf_step, svf_buffer}
 use Rattle.noise.proofs.OneAhead.{ahead_step, ahead_end}
 use Rattle.waveguide.specs.declared.string.String.{String}
-use Rattle.waveguide.specs.String.{moved, frame_of, Good}
+use Rattle.waveguide.specs.String.{moved, frame_of}
+use Rattle.waveguide.specs.Kept.{Good}
 use Rattle.waveguide.proofs.Steps.{begun_ahead, begun_drawn, begun_good, begun_run, frame_good, words_to_few, words_turn, words_end}
 use Rattle.string_voice.proofs.OneLoop.{filter_of, all_frames}
 use Rattle.string_voice.proofs.string_voice.sound_frames.Goals as goal

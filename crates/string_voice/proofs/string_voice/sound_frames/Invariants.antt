@@ -6,7 +6,8 @@ use Rattle.ground.proofs.Frames.{Scan, Frames}
 use Rattle.ground.proofs.Lead.{Lead}
 use Rattle.utils.specs.Filter.{svf_buffer}
 use Rattle.noise.specs.Excitation.{add_step}
-use Rattle.waveguide.specs.String.{frame_of, Ahead}
+use Rattle.waveguide.specs.String.{frame_of}
+use Rattle.waveguide.specs.Underway.{Ahead}
 use Rattle.waveguide.proofs.Steps.{words_to}
 use Rattle.string_voice.proofs.OneLoop.{Block, filter_of}
 use Rattle.string_voice.proofs.string_voice.sound_frames.Given as goal

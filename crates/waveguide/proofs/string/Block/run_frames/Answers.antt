@@ -6,7 +6,8 @@ use Rattle.ground.specs.Frames.{frames}
 use Rattle.ground.proofs.Draw.{run_then}
 use Rattle.ground.proofs.Frames.{frames_begin, frames_turn, frames_good}
 use Rattle.waveguide.specs.declared.string.String.{String}
-use Rattle.waveguide.specs.String.{moved, frame_of, Good}
+use Rattle.waveguide.specs.String.{moved, frame_of}
+use Rattle.waveguide.specs.Kept.{Good}
 use Rattle.waveguide.proofs.Steps.{begun_ahead, begun_drawn, begun_good, begun_run, frame_good, words_to_few, words_turn, words_end}
 use Rattle.waveguide.proofs.string.Block.run_frames.Goals as goal
 

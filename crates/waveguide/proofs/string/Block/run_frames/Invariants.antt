@@ -1,7 +1,8 @@
 -- `string::Block::run_frames` meets its contract, by the law of loops over frames.
 use mathlib.Core.Path.{◌≡◌}
 use Rattle.ground.proofs.Frames.{Frames}
-use Rattle.waveguide.specs.String.{frame_of, Ahead}
+use Rattle.waveguide.specs.String.{frame_of}
+use Rattle.waveguide.specs.Underway.{Ahead}
 use Rattle.waveguide.proofs.Steps.{words_to}
 use Rattle.waveguide.proofs.string.Block.run_frames.Given as goal
 
