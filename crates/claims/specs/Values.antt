@@ -5,6 +5,7 @@ use Rattle.std.specs.Float.{binary32, nan, fin}
 use Rattle.std.specs.Float.Ieee.{of_bits, add, sub, mul, div, lt, le, to_unsigned}
 use Rattle.ground.specs.F32.{c0, c0·5, c48000}
 use Rattle.noise.specs.declared.excitation.Knobs.{Knobs}
+use Rattle.noise.specs.declared.excitation.Counts.{Counts}
 use Rattle.waveguide.specs.String.{string_new}
 use Rattle.string_voice.specs.StringVoice as string_voice
 use Rattle.slots.specs.declared.slots.Slot.{Slot}
@@ -14,7 +15,8 @@ use Rattle.slots.specs.Answers.{no_counts, reason_number}
 use Rattle.slots.specs.Slots.{no_string, empty_slot, fresh, slot_at, with_slot}
 use Rattle.slots.specs.Calls.{opening, reset, render}
 use Rattle.slots.specs.Table.{Call, first, within, alike, checks, bad_slot, bad_slots, bad, verdict}
-use Rattle.claims.specs.Ledger.{fresh_led, period, held_period, ratio, whole, next_phase, phase_after, steps, string_entry, render_entry, entry, line_by, line_of, ledger_from, ledger}
+use Rattle.claims.specs.Ledger.{fresh_led, period, held_period, ratio, whole, next_phase, phase_after, steps, string_entry, render_entry}
+use Rattle.claims.specs.Ledger.{entry, line_by, line_of, ledger_from, ledger}
 
 -- ---- calls
 
@@ -56,15 +58,12 @@ pub steps_value : map (λ n. steps n (ratio low) c0) (1 ∷ 2 ∷ 3 ∷ 4 ∷ 5 
 unfolding steps next_phase ratio held_period add sub div mul lt le of_bits
 steps_value = refl
 
--- burst 8, dust 0, dispersion 3
-pub answers_value : map (λ l. l.answer) (ledger 10240 calls) ≡ Ok no_counts ∷ Ok (record { burst = 8; dust = 0; dispersion = 3 }) ∷ []
-unfolding ledger ledger_from line_of line_by verdict first checks within alike entry render_entry string_entry period steps phase_after next_phase whole ratio held_period add sub mul div lt le of_bits to_unsigned
-answers_value = refl
-
--- left 2040
-pub left_value : map (λ l. (get_or l.slots 0 fresh_led).left) (ledger 10240 calls) ≡ 0 ∷ 2040 ∷ []
-unfolding ledger ledger_from line_of line_by verdict first checks within alike entry render_entry string_entry period steps phase_after next_phase whole ratio held_period add sub mul div lt le of_bits to_unsigned
-left_value = refl
+-- burst 8, dust 0, dispersion 3, and left 2040
+pub ledger_value : map {B = Result Counts Reason × ℕ} (λ l. (l.answer, (get_or l.slots 0 fresh_led).left)) (ledger 10240 calls)
+    ≡ (Ok no_counts, 0) ∷ (Ok (record { burst = 8; dust = 0; dispersion = 3 }), 2040) ∷ []
+unfolding ledger ledger_from line_of line_by verdict first checks within alike entry render_entry string_entry period steps
+    phase_after next_phase whole ratio held_period add sub mul div lt le of_bits to_unsigned
+ledger_value = refl
 
 -- ---- the table of refusals
 

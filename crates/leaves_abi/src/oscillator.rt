@@ -1,7 +1,8 @@
 // The cosine oscillator, and the amplitudes that it gives.
 ghost use Rattle.std.specs.Prelude.{◌≡◌};
 ghost use Rattle.ground.specs.F32.{c0};
-ghost use Rattle.utils.specs.CosineOscillator.{osc_init, osc_next, amplitudes_of};
+ghost use Rattle.utils.specs.CosineOscillator.{osc_init, osc_next};
+ghost use Rattle.utils.specs.Amplitudes.{amplitudes_of};
 ghost use Rattle.leaves_abi.specs.Rows.{oscillator_row, amplitudes_row, into, over};
 
 use crate::rows::Row;

@@ -7,7 +7,7 @@ use Rattle.ground.specs.Frames.{scan, after, tab}
 use Rattle.utils.specs.Filter.{tan_fast}
 use Rattle.utils.specs.Utils.{interpolate_of}
 use Rattle.utils.specs.Units.{semitones_to_ratio}
-use Rattle.utils.specs.CosineOscillator.{amplitudes_of}
+use Rattle.utils.specs.Amplitudes.{amplitudes_of}
 use Rattle.modes.specs.declared.resonator.ResonatorSvf.{ResonatorSvf}
 use Rattle.modes.specs.declared.resonator.Batch.{Batch}
 use Rattle.modes.specs.declared.resonator.Resonator.{Resonator}

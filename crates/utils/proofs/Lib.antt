@@ -2,4 +2,3 @@
 pub mod Pitches
 pub mod DelayLine
 pub mod Constants
-pub mod Increments

@@ -1,9 +1,8 @@
--- cosine_oscillator.rs at the approximate mode, and the amplitudes that resonator.rs makes with it. Assumes nothing.
-use Rattle.std.specs.Prelude.{cond, List, replicate, Float}
+-- cosine_oscillator.rs at the approximate mode. Assumes nothing.
+use Rattle.std.specs.Prelude.{cond, Float}
 use Rattle.std.specs.Float.Ieee.{neg, lt}
 use Rattle.utils.specs.declared.cosine_oscillator.CosineOscillator.{CosineOscillator}
 use Rattle.ground.specs.F32.{◌⊕◌, ◌⊖◌, ◌⊗◌, c0, c0·25, c0·5, c1, c2, c16}
-use Rattle.ground.specs.Frames.{scan}
 
 -- the end of init_approximate: the coefficient of a sign and a frequency
 unfoldable pub with_coefficient : CosineOscillator → Float → Float → CosineOscillator
@@ -28,10 +27,3 @@ osc_init frequency = started (approximate (record { y1 = c0; y0 = c0; iir_coeffi
 -- next
 unfoldable pub osc_next : CosineOscillator → CosineOscillator × Float
 osc_next o = (record o { y1 = o.y0; y0 = o.iir_coefficient ⊗ o.y0 ⊖ o.y1 }, o.y0 ⊕ c0·5)
-
--- Resonator::init: an amplitude a mode, 24 of them
-abbrev pub amplitude_step : CosineOscillator → Float → Float → CosineOscillator × Float
-amplitude_step o x y = let n = osc_next o in (n.0, n.1 ⊗ c0·25)
-
-unfoldable pub amplitudes_of : Float → List Float
-amplitudes_of position = (scan amplitude_step (osc_init position) (replicate 24 c0) (replicate 24 c0)).1

@@ -9,7 +9,25 @@ use Rattle.utils.specs.declared.filter.Svf.{Svf}
 use Rattle.ground.specs.F32.{◌⊕◌, ◌⊖◌, ◌⊗◌, ◌⊘◌, c0, c0·01, c1, c100}
 use Rattle.ground.specs.Frames.{scan}
 
--- ---- constants, composed as in the Rust
+-- ---- DcBlocker
+
+-- init
+unfoldable pub dc_init : Float → DcBlocker
+dc_init pole = record { pole = pole; x = c0; y = c0 }
+
+-- process, of one sample
+unfoldable pub dc_of : DcBlocker → Float → DcBlocker
+dc_of d x = record d { x = x; y = d.y ⊗ d.pole ⊕ x ⊖ d.x }
+
+-- process: in place, so that the input is the buffer itself
+abbrev pub dc_step : DcBlocker → Float → Float → DcBlocker × Float
+dc_step d x y = (dc_of d y, (dc_of d y).y)
+
+abbrev pub dc_buffer : DcBlocker → List Float → DcBlocker × List Float
+dc_buffer d ys = scan dc_step d ys ys
+
+-- ---- OnePole::tan, and its constants, composed as in the Rust
+
 unfoldable pub m_pi : Float
 m_pi = of_bits binary32 0x40490fdb
 
@@ -32,7 +50,6 @@ fast_a = of_bits binary32 0x3ea6e979 ⊗ m_pi3
 unfoldable pub fast_b : Float
 fast_b = of_bits binary32 0x3e3aacda ⊗ m_pi5
 
--- OnePole::tan
 unfoldable pub tan_dirty : Float → Float
 tan_dirty f = f ⊗ (m_pi ⊕ dirty_a ⊗ f ⊗ f)
 
@@ -42,23 +59,6 @@ tan_fast f = let f2 = f ⊗ f in f ⊗ (m_pi ⊕ f2 ⊗ (fast_a ⊕ fast_b ⊗ f
 abbrev pub tan_of : FrequencyApproximation → Float → Float
 tan_of Fast f = tan_fast f
 tan_of Dirty f = tan_dirty f
-
--- ---- DcBlocker
-
--- init
-unfoldable pub dc_init : Float → DcBlocker
-dc_init pole = record { pole = pole; x = c0; y = c0 }
-
--- process, of one sample
-unfoldable pub dc_of : DcBlocker → Float → DcBlocker
-dc_of d x = record d { x = x; y = d.y ⊗ d.pole ⊕ x ⊖ d.x }
-
--- process: in place, so that the input is the buffer itself
-abbrev pub dc_step : DcBlocker → Float → Float → DcBlocker × Float
-dc_step d x y = (dc_of d y, (dc_of d y).y)
-
-abbrev pub dc_buffer : DcBlocker → List Float → DcBlocker × List Float
-dc_buffer d ys = scan dc_step d ys ys
 
 -- ---- Svf
 

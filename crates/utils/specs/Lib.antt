@@ -4,5 +4,6 @@ pub mod ParameterInterpolator
 pub mod Filter
 pub mod DelayLine
 pub mod CosineOscillator
+pub mod Amplitudes
 pub mod Units
 pub mod Values

@@ -1,5 +1,5 @@
 -- parameter_interpolator.rs. Assumes nothing.
-use Rattle.std.specs.Prelude.{ℕ, zero, suc, pos, Float}
+use Rattle.std.specs.Prelude.{ℕ, pos, Float}
 use Rattle.std.specs.Float.{binary32}
 use Rattle.std.specs.Float.Ieee.{of_int}
 use Rattle.utils.specs.declared.parameter_interpolator.ParameterInterpolator.{ParameterInterpolator}
@@ -12,8 +12,3 @@ interpolator_of state new size = record { value = state; increment = (new ⊖ st
 -- next
 unfoldable pub next_of : ParameterInterpolator → ParameterInterpolator
 next_of p = record p { value = p.value ⊕ p.increment }
-
--- the value after k calls of next: the old value with each increment taken added in turn, never the target (01 'Filters, lines and tables')
-abbrev pub taken : ℕ → Float → Float → Float
-taken zero value increment = value
-taken (suc k) value increment = taken k (value ⊕ increment) increment

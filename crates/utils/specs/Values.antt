@@ -1,6 +1,6 @@
 -- The values that 01, 'Values to reach', marks and that concern the functions of this crate, each by computation. `fin s m e` is m * 2 ^ e, negative
 -- where s is true, and `negsuc k` is -(k + 1). Assumes nothing.
-use Rattle.std.specs.Prelude.{◌≡◌, refl, true, false, List, ℕ, replicate, pos, negsuc, Float}
+use Rattle.std.specs.Prelude.{◌≡◌, refl, true, false, List, [], ◌∷◌, map, ℕ, replicate, pos, negsuc, Float}
 use Rattle.std.specs.Float.{nan, fin}
 use Rattle.std.specs.Float.Ieee.{of_bits, of_int, add, sub, mul, div, neg, lt, le, to_unsigned}
 use Rattle.resources.specs.Stiffness.{stiffness}
@@ -23,62 +23,24 @@ unfolding next noise_of float_of of_bits of_int sub mul div
 noise_after_33 = refl
 
 -- Words 0, 1, 0x01000001, 0x01000003, 0xFFFFFF7F, 0xFFFFFF80 as whole floats: 0, 1, 16777216, 16777220, 4294967040, 4294967296.
-pub word_0 : word_float 0 ≡ fin false 0 (pos 0)
+pub words_as_floats : map word_float (0 ∷ 1 ∷ 0x01000001 ∷ 0x01000003 ∷ 0xFFFFFF7F ∷ 0xFFFFFF80 ∷ [])
+    ≡ fin false 0 (pos 0) ∷ fin false 1 (pos 0) ∷ fin false 1 (pos 24) ∷ fin false 4194305 (pos 2) ∷ fin false 16777215 (pos 8) ∷ fin false 1 (pos 32) ∷ []
 unfolding of_int
-word_0 = refl
-
-pub word_1 : word_float 1 ≡ fin false 1 (pos 0)
-unfolding of_int
-word_1 = refl
-
-pub word_01000001 : word_float 0x01000001 ≡ fin false 1 (pos 24)
-unfolding of_int
-word_01000001 = refl
-
-pub word_01000003 : word_float 0x01000003 ≡ fin false 4194305 (pos 2)
-unfolding of_int
-word_01000003 = refl
-
-pub word_FFFFFF7_f : word_float 0xFFFFFF7F ≡ fin false 16777215 (pos 8)
-unfolding of_int
-word_FFFFFF7_f = refl
-
-pub word_FFFFFF80 : word_float 0xFFFFFF80 ≡ fin false 1 (pos 32)
-unfolding of_int
-word_FFFFFF80 = refl
+words_as_floats = refl
 
 -- Whole parts of 3.75, -2.5, NaN: 3, 0, 0.
-pub whole_of_3·75 : whole_part (fin false 15 (negsuc 1)) ≡ 3
+pub whole_parts : map whole_part (fin false 15 (negsuc 1) ∷ fin true 5 (negsuc 0) ∷ nan ∷ []) ≡ 3 ∷ 0 ∷ 0 ∷ []
 unfolding whole_part of_bits le lt to_unsigned
-whole_of_3·75 = refl
+whole_parts = refl
 
-pub whole_of_minus_2·5 : whole_part (fin true 5 (negsuc 0)) ≡ 0
-unfolding whole_part of_bits le lt to_unsigned
-whole_of_minus_2·5 = refl
-
-pub whole_of_nan : whole_part nan ≡ 0
-unfolding whole_part of_bits le lt to_unsigned
-whole_of_nan = refl
-
--- Fresh string line, write 1.0: Hermite reads at 1, 1.5 and 2 give 1, 0.5625 and 0.
--- a fresh line of n, whose place is 0, and the string line after the write: its place and its contents
+-- a fresh line of n, whose place is 0
 abbrev pub fresh : ℕ → List Float
 fresh n = replicate n c0
 
-abbrev pub struck : ℕ × List Float
-struck = written (fresh 1024) 0 c1
-
-pub hermite_at_1 : read_hermite struck.1 struck.0 c1 ≡ c1
+-- Fresh string line, write 1.0: Hermite reads at 1, 1.5 and 2 give 1, 0.5625 and 0.
+pub hermite_reads : let w = written (fresh 1024) 0 c1 in map (read_hermite w.1 w.0) (c1 ∷ fin false 3 (negsuc 0) ∷ c2 ∷ []) ≡ c1 ∷ fin false 9 (negsuc 3) ∷ c0 ∷ []
 unfolding read_hermite cubic_of tap whole_part fraction_of of_bits of_int to_unsigned le lt add sub mul
-hermite_at_1 = refl
-
-pub hermite_at_1·5 : read_hermite struck.1 struck.0 (fin false 3 (negsuc 0)) ≡ fin false 9 (negsuc 3)
-unfolding read_hermite cubic_of tap whole_part fraction_of of_bits of_int to_unsigned le lt add sub mul
-hermite_at_1·5 = refl
-
-pub hermite_at_2 : read_hermite struck.1 struck.0 c2 ≡ c0
-unfolding read_hermite cubic_of tap whole_part fraction_of of_bits of_int to_unsigned le lt add sub mul
-hermite_at_2 = refl
+hermite_reads = refl
 
 -- Fresh stretch line, sample 1, delay 4, coefficient 0.5: -0.5.
 pub allpass_at_4 : (allpass_of (fresh 256) 0 c1 4 c0·5).0.out ≡ neg c0·5
@@ -86,19 +48,11 @@ unfolding allpass_of tap of_bits add mul neg
 allpass_at_4 = refl
 
 -- Semitones 0 and 12: 1 and 2.
-pub semitones_0 : semitones_to_ratio c0 ≡ c1
+pub ratios_of_semitones : map semitones_to_ratio (c0 ∷ fin false 3 (pos 2) ∷ []) ≡ c1 ∷ c2 ∷ []
 unfolding semitones_to_ratio high_index low_index pitch_ratio_high pitch_ratio_low whole_part fraction_of of_bits of_int to_unsigned le lt add sub mul
-semitones_0 = refl
-
-pub semitones_12 : semitones_to_ratio (fin false 3 (pos 2)) ≡ c2
-unfolding semitones_to_ratio high_index low_index pitch_ratio_high pitch_ratio_low whole_part fraction_of of_bits of_int to_unsigned le lt add sub mul
-semitones_12 = refl
+ratios_of_semitones = refl
 
 -- Structure 0.25 and 1: stiffness 0 and 2.
-pub stiffness_at_0·25 : interpolate_of c0·25 ≡ c0
+pub stiffnesses : map interpolate_of (c0·25 ∷ c1 ∷ []) ≡ c0 ∷ c2 ∷ []
 unfolding interpolate_of crossfade_of stiffness clamp_f whole_part fraction_of of_bits of_int to_unsigned le lt add sub mul
-stiffness_at_0·25 = refl
-
-pub stiffness_at_1 : interpolate_of c1 ≡ c2
-unfolding interpolate_of crossfade_of stiffness clamp_f whole_part fraction_of of_bits of_int to_unsigned le lt add sub mul
-stiffness_at_1 = refl
+stiffnesses = refl

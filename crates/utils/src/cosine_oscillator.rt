@@ -1,6 +1,7 @@
 // Cosine oscillator: a cosine between 0.0 and 1.0, by the approximate coefficient.
 ghost use Rattle.std.specs.Prelude.{◌≡◌};
-ghost use Rattle.utils.specs.CosineOscillator.{with_coefficient, approximate, started, osc_init, osc_next, amplitudes_of};
+ghost use Rattle.utils.specs.CosineOscillator.{with_coefficient, approximate, started, osc_init, osc_next};
+ghost use Rattle.utils.specs.Amplitudes.{amplitudes_of};
 
 #[derive(Clone, Copy)]
 pub struct CosineOscillator {

@@ -11,7 +11,6 @@ use Rattle.ground.specs.Draw.{Draw, ret}
 use Rattle.ground.specs.Frames.{frames}
 use Rattle.ground.proofs.Draw.{Always, always_run, always_bind}
 use Rattle.ground.proofs.Frames.{Any, always_any, after, frames_after}
-use Rattle.utils.specs.ParameterInterpolator.{taken}
 use Rattle.waveguide.specs.declared.string.StringNonLinearity.{StringNonLinearity}
 use Rattle.waveguide.specs.declared.string.Params.{Params}
 use Rattle.waveguide.specs.declared.string.String.{String}
@@ -55,23 +54,27 @@ frame_stands shape p g s x y h =
     at : Stands g s → Always (Stands (onward p g)) (moved shape p x s)
     at h = subst (λ (g : Float × Float). Always (Stands (onward p g)) (moved shape p x s)) (λ i. (h.0 i, h.1 i)) (moved_stands shape p x s)
 
+-- the delay after k increments
+abbrev increments : Params → ℕ → Float → Float
+increments p k d = after (λ d. d ⊕ p.increment) k d
+
 -- as many increments are taken as there are string steps
-onward_taken : (p : Params) (n : ℕ) (f d : Float) → (after (onward p) n (f, d)).1 ≡ taken (steps p.src_ratio n f) d p.increment
+onward_taken : (p : Params) (n : ℕ) (f d : Float) → (after (onward p) n (f, d)).1 ≡ increments p (steps p.src_ratio n f) d
 unfolding steps
 onward_taken p zero f d = refl
 onward_taken p (suc n) f d = go (lt c1 (f ⊕ p.src_ratio)) (onward_taken p n)
   where
-    go : (b : Bool) → ((f d : Float) → (after (onward p) n (f, d)).1 ≡ taken (steps p.src_ratio n f) d p.increment)
+    go : (b : Bool) → ((f d : Float) → (after (onward p) n (f, d)).1 ≡ increments p (steps p.src_ratio n f) d)
         → (after (onward p) n (cond b (f ⊕ p.src_ratio ⊖ c1) (f ⊕ p.src_ratio), cond b (d ⊕ p.increment) d)).1
-        ≡ taken (cond b 1 0 + steps p.src_ratio n (cond b (f ⊕ p.src_ratio ⊖ c1) (f ⊕ p.src_ratio))) d p.increment
+        ≡ increments p (cond b 1 0 + steps p.src_ratio n (cond b (f ⊕ p.src_ratio ⊖ c1) (f ⊕ p.src_ratio))) d
     go true h =
         let m = steps p.src_ratio n (f ⊕ p.src_ratio ⊖ c1) in
         let e : suc m ≡ 1 + m = omega arith in
-        h (f ⊕ p.src_ratio ⊖ c1) (d ⊕ p.increment) ∙ ap (λ (k : ℕ). taken k d p.increment) e
+        h (f ⊕ p.src_ratio ⊖ c1) (d ⊕ p.increment) ∙ ap (λ (k : ℕ). increments p k d) e
     go false h =
         let m = steps p.src_ratio n (f ⊕ p.src_ratio) in
         let e : m ≡ 0 + m = omega arith in
-        h (f ⊕ p.src_ratio) d ∙ ap (λ (k : ℕ). taken k d p.increment) e
+        h (f ⊕ p.src_ratio) d ∙ ap (λ (k : ℕ). increments p k d) e
 
 pub kept_delay : KeptDelay
 unfolding KeptDelay strung prepared_of tuned

@@ -3,7 +3,7 @@ use Rattle.std.specs.Prelude.{◌≡◌, cond, List, ℕ, zero, suc, ◌+◌, �
 use Rattle.std.specs.Float.Ieee.{lt}
 use Rattle.ground.specs.F32.{◌⊕◌, ◌⊖◌, c1}
 use Rattle.ground.specs.Draw.{value}
-use Rattle.utils.specs.ParameterInterpolator.{taken}
+use Rattle.ground.specs.Frames.{after}
 use Rattle.waveguide.specs.declared.string.StringNonLinearity.{StringNonLinearity}
 use Rattle.waveguide.specs.declared.string.StringNonLinearity.TheVariants.{CurvedBridge, Dispersion}
 use Rattle.waveguide.specs.declared.string.String.{String}
@@ -34,4 +34,4 @@ unfoldable pub KeptDelay : Type 0
 KeptDelay = (shape : StringNonLinearity) (f0 brightness damping : Float) (s : String × List Float) (xs ys : List Float) (word : ℕ)
     → let b = prepared_of s.0 shape f0 brightness damping (length ys) in
     (value (strung shape f0 brightness damping s xs ys) word).0.0.delay
-    ≡ taken (steps b.block.params.src_ratio (min (length xs) (length ys)) b.string.src_phase) s.0.delay b.block.params.increment
+    ≡ after (λ d. d ⊕ b.block.params.increment) (steps b.block.params.src_ratio (min (length xs) (length ys)) b.string.src_phase) s.0.delay

@@ -3,7 +3,8 @@ use Rattle.std.specs.Prelude.{Bool, false, cond, ◌&&◌, List, ℕ, ◌+◌, l
 use Rattle.std.specs.Float.Ieee.{lt, le, neg}
 use Rattle.resources.specs.Table.{entry}
 use Rattle.resources.specs.Svf.{svf_shift}
-use Rattle.ground.specs.F32.{◌⊕◌, ◌⊖◌, ◌⊗◌, ◌⊘◌, c0, c0·025, c0·06, c0·1, c0·15, c0·225, c0·308, c0·408, c0·499, c0·4999, c0·5, c0·618, c0·75, c0·94, c0·95, c0·9999, c0·01, c1, c1·5, c2, c2·1, c4, c12, c20, c24, c60, c84, c100, c128, c160, c255, c1020, c48000}
+use Rattle.ground.specs.F32.{◌⊕◌, ◌⊖◌, ◌⊗◌, ◌⊘◌, c0, c0·01, c0·025, c0·06, c0·1, c0·15, c0·225, c0·308, c0·408, c0·499, c0·4999, c0·5, c0·618, c0·75}
+use Rattle.ground.specs.F32.{c0·94, c0·95, c0·9999, c1, c1·5, c2, c2·1, c4, c12, c20, c24, c60, c84, c100, c128, c160, c255, c1020, c48000}
 use Rattle.ground.specs.Draw.{Draw, ret, ask, ◌>>=◌}
 use Rattle.ground.specs.Frames.{frames}
 use Rattle.ground.specs.Part.{part, within}

@@ -5,7 +5,7 @@ use lib.Ieee.{Float, nan}
 use lib.ListN.{replicate}
 use Rattle.ground.specs.F32.{◌⊗◌, c0, c0·25}
 use Rattle.utils.specs.declared.cosine_oscillator.CosineOscillator.{CosineOscillator}
-use Rattle.utils.specs.CosineOscillator.{amplitude_step, amplitudes_of}
+use Rattle.utils.specs.Amplitudes.{amplitude_step, amplitudes_of}
 use Rattle.ground.specs.Frames.{scan}
 use Rattle.ground.proofs.Frames.{frames_begin, scan_turn, scan_end}
 use Rattle.utils.proofs.cosine_oscillator.amplitudes.Goals as goal

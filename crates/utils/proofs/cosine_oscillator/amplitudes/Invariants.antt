@@ -1,5 +1,5 @@
 -- `cosine_oscillator::amplitudes` meets its contract, by the law of loops over frames, at an array.
-use Rattle.utils.specs.CosineOscillator.{amplitude_step}
+use Rattle.utils.specs.Amplitudes.{amplitude_step}
 use Rattle.ground.proofs.Frames.{Scan}
 use Rattle.utils.proofs.cosine_oscillator.amplitudes.Given as goal
 
