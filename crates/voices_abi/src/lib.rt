@@ -56,8 +56,8 @@ pub extern "C" fn strings_render(
       structure = structure;
       brightness = brightness;
       damping = damping;
-    }) blocks lines.old temp.old temp_2.old out.old aux.old) word ≡ record {
-      value = (lines.new, (temp.new, (temp_2.new, (out.new, aux.new))));
+    }) blocks lines.old (record { temp = temp.old; temp2 = temp_2.old; out = out.old; aux = aux.old })) word ≡ record {
+      value = (lines.new, record { temp = temp.new; temp2 = temp_2.new; out = out.new; aux = aux.new });
       word = result;
     } }
 {
@@ -116,8 +116,8 @@ pub extern "C" fn modals_render(
       structure = structure;
       brightness = brightness;
       damping = damping;
-    }) blocks temp.old temp_2.old out.old aux.old) word ≡ record {
-      value = (temp.new, (temp_2.new, (out.new, aux.new)));
+    }) blocks (record { temp = temp.old; temp2 = temp_2.old; out = out.old; aux = aux.old })) word ≡ record {
+      value = record { temp = temp.new; temp2 = temp_2.new; out = out.new; aux = aux.new };
       word = result;
     } }
 {

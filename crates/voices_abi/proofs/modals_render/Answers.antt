@@ -17,5 +17,5 @@ loop-preserved c =
 pub returns : goal.returns
 returns c =
     let a = c.args in
-    lent_is (search rules) (search rules) (search rules) (search rules) (λ v. record { value = (v.temp, (v.temp2, (v.out, v.aux))); word = c.loop.drawn })
-    (ended _ _ _ _ a.temp.now a.temp_2.now a.out.now a.aux.now a.word _ _ _ (sym c.alike.ensures ∙ c.if-not-alike.false) (opened_is a.temp.now a.temp_2.now a.out.now a.aux.now _ _ c.new.ensures c.init-voice.ensures) c.loop.invariant.0 (omega arith))
+    lent_is (search rules) (search rules) (search rules) (search rules) (λ v. record { value = v; word = c.loop.drawn })
+    (ended _ _ _ _ (record { temp = a.temp.now; temp2 = a.temp_2.now; out = a.out.now; aux = a.aux.now }) a.word _ _ _ (sym c.alike.ensures ∙ c.if-not-alike.false) (opened_is (record { temp = a.temp.now; temp2 = a.temp_2.now; out = a.out.now; aux = a.aux.now }) _ _ c.new.ensures c.init-voice.ensures) c.loop.invariant.0 (omega arith))
