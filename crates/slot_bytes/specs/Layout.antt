@@ -2,6 +2,7 @@
 use Rattle.std.specs.Prelude.{Bool, true, false, not, ◌&&◌, List, [], ◌∷◌, ◌++◌, map, ◌≡◌, ℕ, zero, suc, ◌+◌, ◌*◌, T, eqb, length, get_or, take, drop, Float}
 use Rattle.std.specs.Float.{binary32}
 use Rattle.std.specs.Float.Ieee.{fits, is_nan, of_bits, to_bits}
+use lib.Ieee.Bits.{of_bits-to_bits}
 use Rattle.ground.specs.Frames.{tab}
 use Rattle.ground.specs.Part.{put}
 use Rattle.utils.specs.declared.filter.Svf.{Svf}
@@ -80,6 +81,10 @@ decode_slot bs = slot_in (words bs) (eqb (get_or bs 392 0) 1)
 
 abbrev pub F32 : Float → Type 0
 F32 x = T (fits binary32 x)
+
+-- such a float is what its bits are read as
+pub float_again : (x : Float) → F32 x → of_bits binary32 (to_bits binary32 x) ≡ x
+float_again x f = of_bits-to_bits binary32 x f
 
 abbrev pub SvfF32 : Svf → Type 0
 SvfF32 s = F32 s.g × F32 s.r × F32 s.h × F32 s.state_1 × F32 s.state_2

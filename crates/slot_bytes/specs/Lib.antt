@@ -1,4 +1,3 @@
 -- What the functions of `slot_bytes` are proved equal to: the layout of a bank's bytes.
 pub mod Words
 pub mod Layout
-pub mod Back

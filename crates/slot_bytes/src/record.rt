@@ -1,9 +1,8 @@
 // A thing that stands in bytes as words, from the k-th on, and many of one kind in a row.
-ghost use Rattle.std.specs.Prelude.{◌≡◌, ℕ, List, ◌++◌, ◌+◌, ◌*◌, ◌≤◌, ◌<◌, length};
+ghost use Rattle.std.specs.Prelude.{◌≡◌, refl, ℕ, List, ◌++◌, ◌+◌, ◌*◌, ◌≤◌, ◌<◌, length};
 ghost use Rattle.ground.specs.Frames.{tab};
 ghost use Rattle.slot_bytes.specs.Words.{words, put_words, each};
-ghost use Rattle.slot_bytes.specs.Layout.{F32, SvfF32, DcF32, ModeF32, BatchF32, All, float_in, svf_in, dc_in, mode_in, batch_in, float_words, svf_words, dc_words, mode_words, batch_words};
-ghost use Rattle.slot_bytes.specs.Back.{float_sized, svf_sized, dc_sized, mode_sized, batch_sized, float_back, svf_back, dc_back, mode_back, batch_back};
+ghost use Rattle.slot_bytes.specs.Layout.{F32, SvfF32, DcF32, ModeF32, BatchF32, All, float_in, svf_in, dc_in, mode_in, batch_in, float_again, float_words, svf_words, dc_words, mode_words, batch_words};
 
 use crate::words::{put_word, word_at};
 use modes::resonator::{Batch, ResonatorSvf};
@@ -57,9 +56,9 @@ impl Record for f32 {
         put_word(b, k, ground::bits::pattern_of(self) as usize);
     }
 
-    ghost sized = { float_sized };
+    ghost sized = { λ x. unfold float_words in refl };
 
-    ghost undone = { float_back };
+    ghost undone = { λ x ws f. unfold float_words in float_again x f };
 }
 
 impl Record for Svf {
@@ -92,9 +91,15 @@ impl Record for Svf {
         self.state_2.write(b, k + 4);
     }
 
-    ghost sized = { svf_sized };
+    ghost sized = { λ x. unfold svf_words in refl };
 
-    ghost undone = { svf_back };
+    ghost undone = { λ s ws f. unfold svf_in svf_words in λ i. record {
+      g = float_again s.g f.0 i;
+      r = float_again s.r f.1 i;
+      h = float_again s.h f.2 i;
+      state_1 = float_again s.state_1 f.3 i;
+      state_2 = float_again s.state_2 f.4 i;
+    } };
 }
 
 impl Record for DcBlocker {
@@ -123,9 +128,13 @@ impl Record for DcBlocker {
         self.y.write(b, k + 2);
     }
 
-    ghost sized = { dc_sized };
+    ghost sized = { λ x. unfold dc_words in refl };
 
-    ghost undone = { dc_back };
+    ghost undone = { λ d ws f. unfold dc_in dc_words in λ i. record {
+      pole = float_again d.pole f.0 i;
+      x = float_again d.x f.1 i;
+      y = float_again d.y f.2 i;
+    } };
 }
 
 impl Record for ResonatorSvf {
@@ -152,9 +161,12 @@ impl Record for ResonatorSvf {
         self.state_2.write(b, k + 1);
     }
 
-    ghost sized = { mode_sized };
+    ghost sized = { λ x. unfold mode_words in refl };
 
-    ghost undone = { mode_back };
+    ghost undone = { λ m ws f. unfold mode_in mode_words in λ i. record {
+      state_1 = float_again m.state_1 f.0 i;
+      state_2 = float_again m.state_2 f.1 i;
+    } };
 }
 
 impl Record for Batch {
@@ -185,9 +197,14 @@ impl Record for Batch {
         self.mode_3.write(b, k + 6);
     }
 
-    ghost sized = { batch_sized };
+    ghost sized = { λ x. unfold batch_words mode_words in refl };
 
-    ghost undone = { batch_back };
+    ghost undone = { λ b ws f. unfold batch_in batch_words mode_in mode_words BatchF32 in λ i. record {
+      mode_0 = record { state_1 = float_again b.mode_0.state_1 f.0.0 i; state_2 = float_again b.mode_0.state_2 f.0.1 i };
+      mode_1 = record { state_1 = float_again b.mode_1.state_1 f.1.0 i; state_2 = float_again b.mode_1.state_2 f.1.1 i };
+      mode_2 = record { state_1 = float_again b.mode_2.state_1 f.2.0 i; state_2 = float_again b.mode_2.state_2 f.2.1 i };
+      mode_3 = record { state_1 = float_again b.mode_3.state_1 f.3.0 i; state_2 = float_again b.mode_3.state_2 f.3.1 i };
+    } };
 }
 
 #[tactic(auto, using(ground::proofs::Tab::stored_turn, ground::proofs::Tab::stored_end))]
