@@ -1,7 +1,6 @@
 -- What a whole list needs of one voice: an accepted call draws as many words as the ledger says, whatever they are, and leaves what the ledger says. Assumes nothing.
 use mathlib.Core.Path.{◌≡◌, refl, sym, ap, ◌∙◌, subst}
-use mathlib.Core.Bool.{Bool, true, false, not, ◌&&◌, ◌||◌, cond, false≢true}
-use mathlib.Core.List.{List, [], ◌∷◌}
+use mathlib.Core.Bool.{Bool, true, false, not, ◌||◌, cond}
 use Prim.Native.Nat.{ℕ, zero, suc, ◌+◌, ◌-◌, ◌≤◌, ◌<◌, min, zero-le}
 use native.Mathlib.Omega.{arith}
 use lib.ListN.{length, length-replicate}
@@ -11,7 +10,6 @@ use denote.Floats.{passes, is_true}
 use borrow.Author.Tests.{not-false}
 use Rattle.ground.specs.F32.{c0, c0·5, c1}
 use Rattle.ground.specs.Draw.{Draw}
-use Rattle.ground.specs.Each.{Each}
 use Rattle.ground.proofs.Draw.{Draws, draws_then}
 use Rattle.bounds.proofs.Order.{and_true}
 use Rattle.noise.specs.declared.excitation.Knobs.{Knobs}
@@ -21,12 +19,11 @@ use Rattle.noise.proofs.Ranges.{Knob, Fundamental, knob, fundamental}
 use Rattle.string_voice.proofs.Drawn as string
 use Rattle.modal_voice.specs.ModalVoice as modal-specs
 use Rattle.modal_voice.proofs.Drawn as modal
-use Rattle.std.specs.Prelude.{Result, Ok, Err}
-use Rattle.slots.specs.declared.answers.Reason.{Reason}
+use Rattle.std.specs.Prelude.{Ok}
 use Rattle.slots.specs.declared.slots.Slot.{Slot}
 use Rattle.slots.specs.Slots.{no_string}
 use Rattle.slots.specs.Calls.{Bufs, Act, opening, reset, render, InF32, Voice, Done, open_def, reset_def, string_def, modal_def, render_def, act_def}
-use Rattle.slots.specs.Table.{Check, first, within, lowest, alike, checks}
+use Rattle.slots.specs.Table.{first, within, lowest, checks}
 use Rattle.noise.specs.Excitation.{Alike}
 use Rattle.bank.proofs.Accepted.{Sound, all_spared, render_spared, alike_lent}
 use Rattle.claims.specs.Ledger.{Led, Entry, string_entry, modal_entry, render_entry, entry}
