@@ -1,6 +1,6 @@
 // The one generator, lent to whichever voice is rendering.
 ghost use Rattle.std.specs.Prelude.{◌≡◌};
-ghost use Rattle.ground.specs.Draw.{next};
+ghost use Rattle.ground.specs.Random.{next};
 ghost use Rattle.noise.specs.Buffers.{held, IsSame};
 ghost use Rattle.slots.specs.Calls.{render};
 ghost use Rattle.slots.specs.Table.{Call};

@@ -3,7 +3,8 @@
 use Rattle.std.proofs.Common.{◌≡◌, ℕ, zero, suc, ◌+◌, ◌<◌, List, ◌∷◌, ◌++◌, length, get_or, sym, refl, ap, ◌∙◌, subst, le_of_suc-le-suc, not-suc-le-zero, suc-add, zero-add}
 use mathlib.Core.Path.{fun_ext}
 use mathlib.Core.Option.{some}
-use Rattle.ground.specs.Draw.{Draw, ret, ask, Ran, next, moved, stream, run, value, ending, words, fed, counted, ◌>>=◌}
+use Rattle.ground.specs.Draw.{Draw, ret, ask, Ran, moved, stream, run, value, ending, words, fed, counted, ◌>>=◌}
+use Rattle.ground.specs.Random.{next}
 
 -- ---- the generator
 

@@ -1,8 +1,7 @@
 -- Laws on plain numbers: what `compare` gives, and a word's digits from its leading zeros. Assumes nothing.
 use Rattle.std.proofs.Common.{◌≡◌, ℕ, zero, suc, ◌+◌, ◌-◌, ◌*◌, ◌/◌, ◌%◌, ◌^◌, ◌<◌, ◌≤◌, T, pos, le→leb, sym, ap, ◌∙◌, subst, le_trans, le_of_eq, le_refl, lt_of_lt_of_le, le_of_suc-le-suc, not-suc-le-zero, mod-eq_of_lt, zero-lt-suc, mul_assoc, mul-lt-mul_of_pos_right, pow-suc, lt_of_not-le, sub-add_cancel, not-le_of_lt, arith, pow_pos, pow_mono, pow-add}
 use Prim.Native.Nat.compare
-use Prim.Native.Nat.{Ordering}
-use Prim.Native.Nat.{compare}
+use Prim.Native.Nat.{Ordering, compare}
 use native.Mathlib.Decide.{dec_lt}
 use lib.Count.{count_leading_zeros, leading_unique}
 use lib.Ieee.{Float, binary32, of_int, size, nearest, in_float}

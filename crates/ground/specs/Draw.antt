@@ -1,11 +1,8 @@
 -- Computations that draw words. A definition says `ask` where it draws, and nothing of where the words come from: the generator runs it, and so does
 -- a list of words fed. Assumes nothing.
-use Rattle.std.specs.Prelude.{ℕ, zero, suc, ◌+◌, ◌*◌, ◌%◌, ◌^◌, List, [], ◌∷◌}
+use Rattle.std.specs.Prelude.{ℕ, zero, suc, List, [], ◌∷◌}
 use Rattle.std.proofs.Math.Option.{Option, none, some}
-
--- get_word: a draw moves the generator's word to this one, and gives it
-unfoldable pub next : ℕ → ℕ
-next w = (w * 1664525 + 1013904223) % 2 ^ 32
+use Rattle.ground.specs.Random.{next}
 
 -- w moved n times
 abbrev pub moved : ℕ → ℕ → ℕ

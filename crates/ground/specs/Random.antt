@@ -1,8 +1,12 @@
--- random.rs: the floats of a word that was drawn. `next`, of Draw, is get_word. Assumes nothing.
-use Rattle.std.specs.Prelude.{ℕ, pos, Float}
+-- random.rs: the generator's next word, and the floats of a word. Assumes nothing.
+use Rattle.std.specs.Prelude.{ℕ, ◌+◌, ◌*◌, ◌%◌, ◌^◌, pos, Float}
 use Rattle.std.specs.Float.{binary32}
 use Rattle.std.specs.Float.Ieee.{of_int}
 use Rattle.ground.specs.F32.{◌⊖◌, ◌⊗◌, ◌⊘◌, c1, c2, two_to32}
+
+-- get_word: a draw moves the generator's word to this one, and gives it
+unfoldable pub next : ℕ → ℕ
+next w = (w * 1664525 + 1013904223) % 2 ^ 32
 
 -- `w as f32`: the nearest f32, ties to even
 abbrev pub word_float : ℕ → Float

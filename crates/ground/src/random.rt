@@ -1,8 +1,7 @@
 // Pseudo random number generator. The word goes in and comes out; nothing is kept here.
 ghost use Rattle.std.specs.Prelude.{◌≡◌, ◌-◌, ◌*◌, ◌%◌, ◌^◌, ◌<◌};
 ghost use Rattle.std.specs.Float.Ieee.Nearest.{closest};
-ghost use Rattle.ground.specs.Draw.{next};
-ghost use Rattle.ground.specs.Random.{word_float, float_of, noise_of};
+ghost use Rattle.ground.specs.Random.{next, word_float, float_of, noise_of};
 
 // u32::wrapping_mul: 01 'The shape of some places' asks for a multiply of our own beside std's `wrapping_add`.
 pub fn wrapping_mul(a: u32, b: u32) -> u32
@@ -13,7 +12,7 @@ pub fn wrapping_mul(a: u32, b: u32) -> u32
 }
 
 // The word that a draw moves the generator's word to, and gives.
-#[tactic(auto, unfolding(crate::specs::Draw::next))]
+#[tactic(auto, unfolding(crate::specs::Random::next))]
 pub fn get_word(word: u32) -> u32
     ensures { result ≡ next word }
 {

@@ -1,8 +1,7 @@
 // Words, and the floats of a word that was drawn.
 ghost use Rattle.std.specs.Prelude.{◌≡◌};
-ghost use Rattle.ground.specs.Draw.{next};
+ghost use Rattle.ground.specs.Random.{next, float_of, noise_of};
 ghost use Rattle.ground.specs.F32.{c0};
-ghost use Rattle.ground.specs.Random.{float_of, noise_of};
 ghost use Rattle.leaves_abi.specs.Rows.{number_row, over};
 ghost use Rattle.leaves_abi.specs.Leaves.{dust_at};
 

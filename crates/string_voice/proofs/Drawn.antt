@@ -22,8 +22,7 @@ use Rattle.waveguide.specs.declared.string.String.{String}
 use Rattle.noise.specs.declared.excitation.Knobs.{Knobs}
 use Rattle.string_voice.specs.declared.string_voice.StringVoice.{StringVoice}
 use Rattle.waveguide.specs.String.{ratio_of, snap, non_linearity, strung}
-use Rattle.waveguide.specs.Kept.{Good}
-use Rattle.waveguide.specs.Kept.{words_at}
+use Rattle.waveguide.specs.Kept.{Good, words_at}
 use Rattle.string_voice.specs.StringVoice.{cutoff_for, struck, excitation, excitation_words, Excited, excite_of, amount, Sounded, sound_of, After, render_of}
 use Rattle.waveguide.proofs.Steps.{wrap, At}
 use Rattle.waveguide.proofs.Blocks.{ratio_for, strung_draws}

@@ -49,10 +49,11 @@ struck k v =
     })
     v
 
--- without sustain silence, and noise in its first m frames
+-- a sample of noise
 abbrev pub drawn_noise : Draw Float
 drawn_noise = ask (λ w. ret (noise_of w))
 
+-- without sustain silence, and noise in its first m frames
 unfoldable pub burst : ℕ → List Float → Draw (List Float)
 burst m temp = filled drawn_noise (take m temp) (silence temp)
 

@@ -1,4 +1,4 @@
--- filter.rs: the approximate tangents, the DC blocker, and the state variable filter at its low pass. Assumes nothing.
+-- filter.rs: the DC blocker, the approximate tangents, and the state variable filter at its low pass. Assumes nothing.
 use Rattle.std.specs.Prelude.{List, Float}
 use Rattle.std.specs.Float.{binary32}
 use Rattle.std.specs.Float.Ieee.{of_bits}

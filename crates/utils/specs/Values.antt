@@ -6,8 +6,7 @@ use Rattle.std.specs.Float.Ieee.{of_bits, of_int, add, sub, mul, div, neg, lt, l
 use Rattle.resources.specs.Stiffness.{stiffness}
 use Rattle.resources.specs.Pitch.{pitch_ratio_high, pitch_ratio_low}
 use Rattle.ground.specs.F32.{c0, c0·25, c0·5, c1, c2}
-use Rattle.ground.specs.Draw.{next}
-use Rattle.ground.specs.Random.{word_float, float_of, noise_of}
+use Rattle.ground.specs.Random.{next, word_float, float_of, noise_of}
 use Rattle.ground.specs.Floats.{whole_part, fraction_of, clamp_f}
 use Rattle.utils.specs.DelayLine.{tap, written, cubic_of, read_hermite, allpass_of}
 use Rattle.utils.specs.Units.{high_index, low_index, semitones_to_ratio}
@@ -38,7 +37,8 @@ abbrev pub fresh : ℕ → List Float
 fresh n = replicate n c0
 
 -- Fresh string line, write 1.0: Hermite reads at 1, 1.5 and 2 give 1, 0.5625 and 0.
-pub hermite_reads : let w = written (fresh 1024) 0 c1 in map (read_hermite w.1 w.0) (c1 ∷ fin false 3 (negsuc 0) ∷ c2 ∷ []) ≡ c1 ∷ fin false 9 (negsuc 3) ∷ c0 ∷ []
+pub hermite_reads : let w = written (fresh 1024) 0 c1 in
+    map (read_hermite w.1 w.0) (c1 ∷ fin false 3 (negsuc 0) ∷ c2 ∷ []) ≡ c1 ∷ fin false 9 (negsuc 3) ∷ c0 ∷ []
 unfolding read_hermite cubic_of tap whole_part fraction_of of_bits of_int to_unsigned le lt add sub mul
 hermite_reads = refl
 

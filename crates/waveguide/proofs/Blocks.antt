@@ -1,4 +1,4 @@
--- What the calls of `process` ensure, put together, and what a block of the string keeps and draws. Assumes nothing.
+-- What the calls of `strung` ensure, put together, and what a block of the string keeps and draws. Assumes nothing.
 use mathlib.Core.Path.{◌≡◌, refl, sym, ap, ◌∙◌}
 use mathlib.Core.List.{List}
 use Prim.Native.Nat.{ℕ, min}
@@ -13,8 +13,7 @@ use Rattle.waveguide.specs.declared.string.Prepared.{Prepared}
 use Rattle.waveguide.specs.declared.string.Damping.{Damping}
 use Rattle.waveguide.specs.declared.string.String.{String}
 use Rattle.waveguide.specs.String.{amount_of, ratio_of, snap, damping_of, params_of, tuned, prepared_of, frame_of, strung}
-use Rattle.waveguide.specs.Kept.{Good}
-use Rattle.waveguide.specs.Kept.{words_at}
+use Rattle.waveguide.specs.Kept.{Good, words_at}
 use Rattle.waveguide.proofs.Steps.{wrap, At, frames_draw}
 
 tuned_good : (s : String) (f0 : Float) (d : Damping) (lines : List Float) (t : String) → t ≡ tuned s f0 d → Good (s, lines) → Good (t, lines)

@@ -1,4 +1,4 @@
--- What the calls of the string's `step` ensure, put together; what a step and a frame keep; and the words that they draw. Assumes nothing.
+-- What the calls of the string's `step_of` ensure, put together; what a step and a frame keep; and the words that they draw. Assumes nothing.
 use mathlib.Core.Path.{◌≡◌, refl, sym, ◌∙◌, ap, subst}
 use mathlib.Core.Bool.{Bool, true, false, cond}
 use mathlib.Core.List.{List, ◌++◌}
@@ -27,9 +27,8 @@ use Rattle.waveguide.specs.declared.string.String.{String}
 use Rattle.waveguide.specs.declared.string.Heard.{Heard}
 use Rattle.waveguide.specs.declared.string.Underway.{Underway}
 use Rattle.waveguide.specs.String.{bent, plain, allpassed, main_of, stretched, heard, bridged, step_of, moved, frame_of}
-use Rattle.waveguide.specs.Kept.{Good}
+use Rattle.waveguide.specs.Kept.{Good, words_of, words_at}
 use Rattle.waveguide.specs.Underway.{guess_of, guess_after, begun, Ahead}
-use Rattle.waveguide.specs.Kept.{words_of, words_at}
 
 module _ (shape : StringNonLinearity) (p : Params) (x : Float) (t : String) (word : ℕ) (lines : List Float) where
   pub stepped : {delay noise : Float} {word' : ℕ} {h : Heard} {lines' : List Float} {held : Float} {dc : DcBlocker} {o : Svf × Float} {next : ℕ} {line' : List Float} {bridge : Float}

@@ -2,9 +2,9 @@
 use Rattle.std.specs.Prelude.{◌≡◌, cond, ℕ, Float}
 use Rattle.std.specs.Float.Ieee.{lt}
 use Rattle.ground.specs.F32.{◌⊕◌, ◌⊖◌, c0·5, c1}
-use Rattle.ground.specs.Draw.{next, value}
+use Rattle.ground.specs.Draw.{value}
+use Rattle.ground.specs.Random.{next, float_of}
 use Rattle.ground.specs.Floats.{whole_part}
-use Rattle.ground.specs.Random.{float_of}
 use Rattle.utils.specs.Utils.{one_pole}
 use Rattle.waveguide.specs.declared.string.StringNonLinearity.{StringNonLinearity}
 use Rattle.waveguide.specs.declared.string.StringNonLinearity.TheVariants.{CurvedBridge, Dispersion}

@@ -3,9 +3,8 @@ ghost use Rattle.std.specs.Prelude.{◌≡◌, ◌+◌, ◌≤◌, ◌<◌, ◌^
 ghost use Rattle.ground.specs.Draw.{run, Ran, counted};
 ghost use Rattle.ground.specs.Frames.{frames};
 ghost use Rattle.waveguide.specs.String.{string_new, string_reset, string_init, non_linearity, amount_of, delay_of, snap, damping_of, compensation_of, noise_amount_of, params_of, tuned, prepared_of, bent, plain, allpassed, main_of, stretched, heard, bridged, step_of, moved, mixed, frame_of, strung};
-ghost use Rattle.waveguide.specs.Kept.{Good};
+ghost use Rattle.waveguide.specs.Kept.{Good, words_of, words_at};
 ghost use Rattle.waveguide.specs.Underway.{noise_after, Ahead, guess_of, guess_after, guess_at, begun};
-ghost use Rattle.waveguide.specs.Kept.{words_of, words_at};
 
 use utils::filter::{DcBlocker, FrequencyApproximation, Svf};
 

@@ -4,8 +4,8 @@ use mathlib.Core.Path.{◌≡◌}
 use Prim.Native.Nat.{ℕ}
 use native.Mathlib.Omega.{arith}
 use lib.Ieee.{Float, nan}
-use Rattle.ground.specs.Draw.{ret, next, run}
-use Rattle.ground.specs.Random.{float_of}
+use Rattle.ground.specs.Draw.{ret, run}
+use Rattle.ground.specs.Random.{next, float_of}
 use Rattle.ground.proofs.Frames.{frames_begin, frames_turn, frames_then}
 use Rattle.noise.specs.Excitation.{fill_step}
 use Rattle.leaves_abi.specs.Buffers.{drawn_float}
