@@ -23,7 +23,7 @@ use Rattle.slots.specs.Answers.{no_counts}
 use Rattle.slots.specs.Slots.{slot_at, with_slot, opened}
 use Rattle.slots.specs.Calls.{Act, Bufs, Voice, Done, lent, opening, reset, render, open_def, reset_def, string_def, modal_def, render_def, act_def}
 use Rattle.slots.specs.Table.{Call, verdict, bad}
-use Rattle.bank.specs.World.{World, lines_at, with_lines, Left, left_of, Moved, moved_by, call_by, call_def}
+use Rattle.bank.specs.World.{World, lines_at, with_lines, Left, left_of, Acted, acted, call_by, call_def}
 
 -- ---- by the table's word
 
@@ -38,7 +38,7 @@ module _ (w : World) (c : Call) where
   refused_left x e = ap (λ (v : Result (Unit {0}) Reason). left_of (call_by v w c)) e
 
   -- what an accepted call leaves, by what it makes of its slot
-  abbrev left_by : Moved → Left
+  abbrev left_by : Acted → Left
   left_by m =
       record {
         answer = Ok m.counts;
@@ -46,13 +46,13 @@ module _ (w : World) (c : Call) where
         bufs = m.bufs;
       }
 
-  pub accepted_left : (x : Slot) (b' : Bank) (m : Moved) → verdict (bad w.bank w.mem) (slot_at w.bank c.slot).kind c ≡ Ok tt
-      → x ≡ slot_at w.bank c.slot → moved_by c.act c.slot x w.word w.mem ≡ m → b' ≡ with_slot w.bank c.slot m.slot
+  pub accepted_left : (x : Slot) (b' : Bank) (m : Acted) → verdict (bad w.bank w.mem) (slot_at w.bank c.slot).kind c ≡ Ok tt
+      → x ≡ slot_at w.bank c.slot → acted c.act c.slot x w.word w.mem ≡ m → b' ≡ with_slot w.bank c.slot m.slot
       → left_of (call_def w c) ≡ record { answer = Ok m.counts; after = record { bank = b'; word = m.word; mem = m.mem }; bufs = m.bufs }
-  unfolding call_def call_by moved_by
+  unfolding call_def call_by acted
   accepted_left x b' m e ex em eb =
       ap (λ (v : Result (Unit {0}) Reason). left_of (call_by v w c)) e
-      ∙ ap (λ (y : Slot). left_by (moved_by c.act c.slot y w.word w.mem)) (sym ex)
+      ∙ ap (λ (y : Slot). left_by (acted c.act c.slot y w.word w.mem)) (sym ex)
       ∙ ap left_by em
       ∙ λ i. record { answer = Ok m.counts; after = record { bank = sym eb i; word = m.word; mem = m.mem }; bufs = m.bufs }
 
@@ -73,7 +73,7 @@ module _ (mem : List Float) (word slot j : ℕ) (wide : j ≡ 1280) where
   mem_with ys = take (1280 * slot) mem ++ (ys ++ drop j (drop (1280 * slot) mem))
 
   -- what a run of the act makes
-  abbrev made_by : Ran Done → Moved
+  abbrev made_by : Ran Done → Acted
   made_by q =
       record {
         slot = q.value.voice.slot;
@@ -83,19 +83,19 @@ module _ (mem : List Float) (word slot j : ℕ) (wide : j ≡ 1280) where
         counts = q.value.counts;
       }
 
-  ran_moved : (act : Act) (x : Slot) {q : Ran Done} → run (act_def act (record { slot = x; lines = lines_at slot mem })) word ≡ q → moved_by act slot x word mem ≡ made_by q
-  unfolding moved_by
+  ran_moved : (act : Act) (x : Slot) {q : Ran Done} → run (act_def act (record { slot = x; lines = lines_at slot mem })) word ≡ q → acted act slot x word mem ≡ made_by q
+  unfolding acted
   ran_moved act x e = ap made_by e
 
   pub opened_moved : (kind : ℕ) (rate : Float) (x y : Slot) (lines : List Float) → (y, lines) ≡ opened kind rate part_of
-      → moved_by (opening kind rate) slot x word mem ≡ record { slot = y; word = word; mem = mem_with lines; bufs = lent (opening kind rate); counts = no_counts }
-  unfolding moved_by act_def open_def part put
+      → acted (opening kind rate) slot x word mem ≡ record { slot = y; word = word; mem = mem_with lines; bufs = lent (opening kind rate); counts = no_counts }
+  unfolding acted act_def open_def part put
   opened_moved kind rate x y lines e = let f = rw wide at e in rw (ap (λ q. q.0) f, ap (λ q. q.1) f, wide)
 
   pub reset_moved : (x : Slot) (s : StringVoice) (lines : List Float) → (s, lines) ≡ string.voice_reset x.string part_of
-      → moved_by reset slot x word mem
+      → acted reset slot x word mem
       ≡ record { slot = record { kind = x.kind; string = s; modal = x.modal }; word = word; mem = mem_with lines; bufs = lent reset; counts = no_counts }
-  unfolding moved_by act_def reset_def part put
+  unfolding acted act_def reset_def part put
   reset_moved x s lines e = let f = rw wide at e in rw (ap (λ q. q.0) f, ap (λ q. q.1) f, wide)
 
   -- a render: the voice's run, and the slot with its voice
@@ -105,7 +105,7 @@ module _ (mem : List Float) (word slot j : ℕ) (wide : j ≡ 1280) where
           value = record { voice = s; lines = lines; temp = v.temp; temp2 = v.temp2; out = v.out; aux = v.aux; counts = counts };
           word = word';
         }
-        → moved_by (render k u) slot x word mem
+        → acted (render k u) slot x word mem
         ≡ record { slot = record { kind = x.kind; string = s; modal = x.modal }; word = word'; mem = mem_with lines; bufs = v; counts = counts }
     unfolding act_def render_def string_def part put
     string_moved s lines counts word' one e =
@@ -119,7 +119,7 @@ module _ (mem : List Float) (word slot j : ℕ) (wide : j ≡ 1280) where
           value = record { voice = m; temp = v.temp; temp2 = v.temp2; out = v.out; aux = v.aux; counts = counts };
           word = word';
         }
-        → moved_by (render k u) slot x word mem
+        → acted (render k u) slot x word mem
         ≡ record { slot = record { kind = x.kind; string = x.string; modal = m }; word = word'; mem = mem; bufs = v; counts = counts }
     unfolding act_def render_def modal_def
     modal_moved m counts word' two e =

@@ -5,7 +5,7 @@ use Rattle.ground.specs.Part.{part, put}
 use Rattle.string_voice.specs.declared.string_voice.StringVoice.{StringVoice}
 use Rattle.slots.specs.declared.slots.Slot.{Slot}
 use Rattle.slots.specs.declared.slots.Bank.{Bank}
-use Rattle.slots.specs.Slots.{fresh, slot_at, with_slot}
+use Rattle.slots.specs.Slots.{fresh_bank, slot_at, with_slot}
 use Rattle.noise.specs.declared.excitation.Counts.{Counts}
 use Rattle.slots.specs.declared.answers.Reason.{Reason}
 use Rattle.slots.specs.Calls.{Act, Bufs, lent, Voice, act_def}
@@ -18,7 +18,7 @@ pub record World : Type 0 where
 
 -- a fresh bank, the generator at the seed
 abbrev pub start : ℕ → List Float → World
-start seed mem = record { bank = fresh; word = seed; mem = mem }
+start seed mem = record { bank = fresh_bank; word = seed; mem = mem }
 
 -- the 1,280 numbers of a slot, and memory with others in their place
 abbrev pub lines_at : ℕ → List Float → List Float
@@ -31,15 +31,15 @@ abbrev pub voice_at : ℕ → World → Voice
 voice_at s w = record { slot = slot_at w.bank s; lines = lines_at s w.mem }
 
 -- what an accepted call makes of one slot, of the generator's word and of line memory
-pub record Moved : Type 0 where
+pub record Acted : Type 0 where
   pub slot : Slot
   pub word : ℕ
   pub mem : List Float
   pub bufs : Bufs
   pub counts : Counts
 
-unfoldable pub moved_by : Act → ℕ → Slot → ℕ → List Float → Moved
-moved_by act s x word mem =
+unfoldable pub acted : Act → ℕ → Slot → ℕ → List Float → Acted
+acted act s x word mem =
     let m = act_def act (record { slot = x; lines = lines_at s mem }) in
     let d = value m word in
     record { slot = d.voice.slot; word = ending m word; mem = with_lines s d.voice.lines mem; bufs = d.bufs; counts = d.counts }
@@ -56,7 +56,7 @@ pub record Event : Type 0 where
 -- accepted, the slot's voice moves by its definition, run by the generator; refused, nothing does
 unfoldable pub call_by : Result (Unit {0}) Reason → World → Call → Event
 call_by (Ok u) w c =
-    let m = moved_by c.act c.slot (slot_at w.bank c.slot) w.word w.mem in
+    let m = acted c.act c.slot (slot_at w.bank c.slot) w.word w.mem in
     record {
       call = c;
       before = w;

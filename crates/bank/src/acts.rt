@@ -3,7 +3,7 @@ ghost use Rattle.std.specs.Prelude.{◌≡◌, ℕ, ◌<◌, List, length, Float
 ghost use Rattle.slots.specs.Answers.{no_counts};
 ghost use Rattle.slots.specs.Calls.{opening, reset, render, lent};
 ghost use Rattle.noise.specs.Buffers.{held, IsAlike, IsSame};
-ghost use Rattle.bank.specs.World.{moved_by, Ready, ReadyString};
+ghost use Rattle.bank.specs.World.{acted, Ready, ReadyString};
 
 use noise::buffers::Buffers;
 use noise::excitation::{Knobs, Rendered};
@@ -18,7 +18,7 @@ const LINES: usize = 1280;
 // Lines are a slice whose length is asked, as C hands them, and belong to no slot alone.
 pub fn open(lines: &mut [f32], slot: usize, kind: u32, sample_rate_hz: f32) -> Slot
     requires { (slot < 8) × (length lines.old ≡ 10240) × (0 < kind) }
-    ensures { (x : Slot) (w : ℕ) → moved_by (opening kind sample_rate_hz) slot x w lines.old
+    ensures { (x : Slot) (w : ℕ) → acted (opening kind sample_rate_hz) slot x w lines.old
         ≡ record { slot = result; word = w; mem = lines.new; bufs = lent (opening kind sample_rate_hz); counts = no_counts } }
 {
     slots::slots::opened(
@@ -31,7 +31,7 @@ pub fn open(lines: &mut [f32], slot: usize, kind: u32, sample_rate_hz: f32) -> S
 // A reset of a string's voice.
 pub fn reset_string(voice: StringVoice, lines: &mut [f32], slot: usize) -> StringVoice
     requires { (slot < 8) × (length lines.old ≡ 10240) }
-    ensures { (x : Slot) (w : ℕ) → x.string ≡ voice → moved_by reset slot x w lines.old
+    ensures { (x : Slot) (w : ℕ) → x.string ≡ voice → acted reset slot x w lines.old
         ≡ record { slot = record x { string = result }; word = w; mem = lines.new; bufs = lent reset; counts = no_counts } }
 {
     voice.reset(&mut lines[LINES * slot..LINES * slot + LINES])
@@ -40,7 +40,7 @@ pub fn reset_string(voice: StringVoice, lines: &mut [f32], slot: usize) -> Strin
 // A reset of a string.
 pub fn reset(x: Slot, lines: &mut [f32], slot: usize) -> Slot
     requires { (slot < 8) × (length lines.old ≡ 10240) }
-    ensures { (w : ℕ) → moved_by reset slot x w lines.old
+    ensures { (w : ℕ) → acted reset slot x w lines.old
         ≡ record { slot = result; word = w; mem = lines.new; bufs = lent reset; counts = no_counts } }
 {
     Slot {
@@ -62,7 +62,7 @@ pub fn render_string(
     b: &mut Buffers,
 ) -> Rendered<StringVoice>
     requires { ReadyString voice lines.old slot b.old.out.now × IsAlike b.old }
-    ensures moved { (x : Slot) → x.kind ≡ 1 → x.string ≡ voice → moved_by (render k (held b.old)) slot x word lines.old ≡ record {
+    ensures moved { (x : Slot) → x.kind ≡ 1 → x.string ≡ voice → acted (render k (held b.old)) slot x word lines.old ≡ record {
       slot = record x { string = result.voice };
       word = result.word;
       mem = lines.new;
@@ -85,7 +85,7 @@ pub fn render_modal(
     b: &mut Buffers,
 ) -> Rendered<Slot>
     requires { (x.kind ≡ 2) × IsAlike b.old }
-    ensures moved { (mem : List Float) → moved_by (render k (held b.old)) slot x word mem ≡ record {
+    ensures moved { (mem : List Float) → acted (render k (held b.old)) slot x word mem ≡ record {
       slot = result.voice;
       word = result.word;
       mem = mem;
@@ -112,7 +112,7 @@ pub fn render(
     b: &mut Buffers,
 ) -> Rendered<Slot>
     requires { Ready x lines.old slot b.old.out.now × IsAlike b.old }
-    ensures moved { moved_by (render k (held b.old)) slot x word lines.old ≡ record {
+    ensures moved { acted (render k (held b.old)) slot x word lines.old ≡ record {
       slot = result.voice;
       word = result.word;
       mem = lines.new;

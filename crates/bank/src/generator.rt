@@ -1,6 +1,6 @@
 // The one generator, lent to whichever voice is rendering.
 ghost use Rattle.std.specs.Prelude.{◌≡◌};
-ghost use Rattle.ground.specs.Random.{next};
+ghost use Rattle.ground.specs.Random.{get_word};
 ghost use Rattle.noise.specs.Buffers.{held, IsSame};
 ghost use Rattle.slots.specs.Calls.{render};
 ghost use Rattle.slots.specs.Table.{Call};
@@ -18,7 +18,7 @@ pub struct Generator {
 
 // A draw moves the word, and gives it.
 pub fn draw(generator: &mut Generator) -> u32
-    ensures { (result ≡ next generator.old.word) × (generator.new.word ≡ next generator.old.word) }
+    ensures { (result ≡ get_word generator.old.word) × (generator.new.word ≡ get_word generator.old.word) }
 {
     let w = ground::random::get_word(generator.word);
     generator.word = w;

@@ -15,7 +15,7 @@ use Rattle.ground.proofs.Tab.{tab_get_d}
 use Rattle.ground.proofs.Part.{part_put_below, part_put_above}
 use Rattle.slots.specs.declared.slots.Slot.{Slot}
 use Rattle.ground.specs.Each.{Each}
-use Rattle.slot_bytes.specs.Words.{words, bytes, each}
+use Rattle.slot_bytes.specs.Words.{words_in, bytes, each}
 use Rattle.slot_bytes.specs.Layout.{SlotF32, bits, svf_in, dc_in, string_in, voice_in, mode_in, batch_in, modal_in, slot_in, decode_slot, svf_words, dc_words, string_words, voice_words, mode_words, batch_words, float_words, modal_words, slot_words, flag_of, encode_slot, parts, decode_bank, encode_bank, with_bytes}
 use Rattle.bank_abi.specs.Claims.{Numbers, DecodeEncodeBank, is_number, kept, EncodeDecode, Words, Untouched}
 use Rattle.slot_bytes.proofs.Little.{length_slot_bytes}
@@ -31,8 +31,8 @@ words_again : (ws : List ℕ) (h : Bool) → slot_words (slot_in ws h) ≡ tab 9
 unfolding slot_words voice_words string_words svf_words dc_words modal_words mode_words batch_words float_words each slot_in voice_in string_in svf_in dc_in modal_in mode_in batch_in tab
 words_again ws h = refl
 
-small_words : (bs : List ℕ) → Each (λ b. b < 256) bs → Each Small (words bs)
-unfolding words
+small_words : (bs : List ℕ) → Each (λ b. b < 256) bs → Each Small (words_in bs)
+unfolding words_in
 small_words [] h = tt
 small_words (a ∷ []) h = tt
 small_words (a ∷ b ∷ []) h = tt
@@ -64,7 +64,7 @@ held_is ws h = refl
 pub encode_decode : EncodeDecode
 unfolding encode_slot decode_slot
 encode_decode bs b =
-    let ws = words bs in
+    let ws = words_in bs in
     let f = eqb (get_or bs 392 0) 1 in
     (λ i. bytes (words_again ws f i) ++ ((ap flag_of (held_is ws f) ∙ flag_kept (get_or bs 392 0) b.flag) i ∷ []))
     ∙ ap (λ (l : List ℕ). bytes l ++ (get_or bs 392 0 ∷ []))
@@ -73,8 +73,8 @@ encode_decode bs b =
 
 -- ---- bytes are the bytes of their words
 
-split : (n : ℕ) (bs : List ℕ) → length bs ≡ 4 * n + 1 → Each (λ b. b < 256) bs → (length (words bs) ≡ n) × (bytes (words bs) ++ (get_or bs (4 * n) 0 ∷ []) ≡ bs)
-unfolding words bytes
+split : (n : ℕ) (bs : List ℕ) → length bs ≡ 4 * n + 1 → Each (λ b. b < 256) bs → (length (words_in bs) ≡ n) × (bytes (words_in bs) ++ (get_or bs (4 * n) 0 ∷ []) ≡ bs)
+unfolding words_in bytes
 split n [] l h = absurd (omega arith)
 split zero (a ∷ []) l h = (refl, refl)
 split zero (a ∷ b ∷ bs) l h = absurd (omega arith)
@@ -90,14 +90,14 @@ split (suc n) (a ∷ b ∷ c ∷ d ∷ bs) l h =
     let m = split n bs (omega arith) h.1.1.1.1 in
     let g : get_or (a ∷ b ∷ c ∷ d ∷ bs) (4 * suc n) 0 ≡ get_or bs (4 * n) 0 = ap (λ (k : ℕ). get_or (a ∷ b ∷ c ∷ d ∷ bs) k 0) e in (
       ap suc m.0,
-      (λ i. byte_0 a b c d p q r s i ∷ byte_1 a b c d p q r s i ∷ byte_2 a b c d p q r s i ∷ byte_3 a b c d p q r s i ∷ (bytes (words bs) ++ (g i ∷ [])))
+      (λ i. byte_0 a b c d p q r s i ∷ byte_1 a b c d p q r s i ∷ byte_2 a b c d p q r s i ∷ byte_3 a b c d p q r s i ∷ (bytes (words_in bs) ++ (g i ∷ [])))
           ∙ ap (λ (z : List ℕ). a ∷ b ∷ c ∷ d ∷ z) m.1,
     )
 
 pub of_words : Words
 of_words bs b =
     let m = split 98 bs b.size b.bytes in
-    ap (λ (l : List ℕ). bytes l ++ (get_or bs 392 0 ∷ [])) (tab_get_d (words bs) 98 0 m.0) ∙ m.1
+    ap (λ (l : List ℕ). bytes l ++ (get_or bs 392 0 ∷ [])) (tab_get_d (words_in bs) 98 0 m.0) ∙ m.1
 
 -- ---- another slot's bytes
 

@@ -20,7 +20,7 @@ use Rattle.modes.specs.declared.resonator.Batch.{Batch}
 use Rattle.slots.specs.declared.slots.Slot.{Slot}
 use Rattle.ground.specs.Each.{Each}
 use Rattle.ground.proofs.Each as every
-use Rattle.slot_bytes.specs.Words.{word_of, words, bytes, each}
+use Rattle.slot_bytes.specs.Words.{word_of, words_in, bytes, each}
 use Rattle.slot_bytes.specs.Layout.{F32, SvfF32, DcF32, StringF32, ModeF32, BatchF32, SlotF32, float_in, svf_in, dc_in, string_in, voice_in, mode_in, batch_in, modal_in, slot_in, decode_slot, bits, svf_words, dc_words, string_words, voice_words, mode_words, batch_words, float_words, modal_words, slot_words, flag_of, encode_slot}
 use Rattle.bank_abi.specs.Claims.{Numbers, DecodeEncode}
 use Rattle.slot_bytes.proofs.Little.{length_bytes, length_floats, length_slot}
@@ -41,8 +41,8 @@ four w h =
     let d₃ = mod-eq_of_lt l in
     omega arith
 
-words_of : (ws : List ℕ) (v : ℕ) → Each Small ws → words (bytes ws ++ (v ∷ [])) ≡ ws
-unfolding words bytes
+words_of : (ws : List ℕ) (v : ℕ) → Each Small ws → words_in (bytes ws ++ (v ∷ [])) ≡ ws
+unfolding words_in bytes
 words_of [] v h = refl
 words_of (w ∷ ws) v h = λ i. four w h.0 i ∷ words_of ws v h.1 i
 

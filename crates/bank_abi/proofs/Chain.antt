@@ -14,13 +14,13 @@ use Rattle.waveguide.specs.String.{string_new}
 use Rattle.string_voice.specs.StringVoice as string_voice
 use Rattle.slots.specs.declared.slots.Bank.{Bank}
 use Rattle.slots.specs.Calls.{Bufs}
-use Rattle.slots.specs.Slots.{no_string, empty_slot, fresh}
+use Rattle.slots.specs.Slots.{no_string, empty_slot, fresh_bank}
 use Rattle.slots.specs.Table.{Call}
 use Rattle.bank.specs.World.{World, start, call_def, run_from}
 use Rattle.claims.specs.Ledger.{ledger}
 use Rattle.claims.specs.Claim.{Account, Asked, calls_of, Demand3}
 use Rattle.claims.proofs.Whole.{demand_3}
-use Rattle.slot_bytes.specs.Words.{words}
+use Rattle.slot_bytes.specs.Words.{words_in}
 use Rattle.slot_bytes.specs.Layout.{decode_bank, encode_bank, parts, decode_slot, slot_in, voice_in, string_in, svf_in, dc_in, modal_in, mode_in, batch_in}
 use Rattle.bank_abi.specs.Crossing.{is_bank, bad_flags, Crossing, world_of, Crossed, numbers_of, decoded, Made, calls_made, ExportedDemand3}
 use Rattle.bank_abi.proofs.Zeros.{fresh_zeros}
@@ -45,18 +45,18 @@ unfolding asked_of
 calls_asked [] x g = refl
 calls_asked (r ∷ rs) x g = ap (λ (cs : List Call). r.0 ∷ cs) (calls_asked rs r.1.after g.1)
 
-fresh_is : is_bank (encode_bank fresh) ≡ true
+fresh_is : is_bank (encode_bank fresh_bank) ≡ true
 unfolding is_bank bad_flags parts
 fresh_is = ap is_bank fresh_zeros ∙ refl
 
-fresh_back : decode_bank (encode_bank fresh) ≡ fresh
-unfolding decode_bank parts decode_slot slot_in voice_in string_in svf_in dc_in modal_in mode_in batch_in words of_bits tab fresh empty_slot no_string string_voice.voice_new string_new voice_new resonator_new filters_new mode_new svf_new dc_init
+fresh_back : decode_bank (encode_bank fresh_bank) ≡ fresh_bank
+unfolding decode_bank parts decode_slot slot_in voice_in string_in svf_in dc_in modal_in mode_in batch_in words_in of_bits tab fresh_bank empty_slot no_string string_voice.voice_new string_new voice_new resonator_new filters_new mode_new svf_new dc_init
 fresh_back = ap decode_bank fresh_zeros ∙ refl
 
 pub exported_demand_3 : ExportedDemand3
 unfolding ExportedDemand3 Demand3
 exported_demand_3 seed h mem rs g =
-    let x : Crossing = record { bytes = encode_bank fresh; word = seed; mem = mem } in
+    let x : Crossing = record { bytes = encode_bank fresh_bank; word = seed; mem = mem } in
     record {
       run = ap (λ (b : Bank). map numbers_of (run_from (record { bank = b; word = seed; mem = mem }) (calls_made rs))) (sym fresh_back) ∙ chain rs x fresh_is g;
       account = subst (λ (cs : List Call). Account seed mem cs (run_from (start seed mem) cs) (ledger (length mem) cs)) (calls_asked rs x g)

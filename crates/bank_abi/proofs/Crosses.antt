@@ -15,12 +15,12 @@ use Rattle.slots.specs.Answers.{no_counts, reason_number}
 use Rattle.slots.specs.Slots.{slot_at, with_slot}
 use Rattle.slots.specs.Calls.{Act, InF32, lent, Voice, act_def}
 use Rattle.slots.specs.Table.{Call, first, checks, verdict, bad}
-use Rattle.bank.specs.World.{Moved, moved_by, call_by, call_def, lines_at}
+use Rattle.bank.specs.World.{Acted, acted, call_by, call_def, lines_at}
 use Rattle.bank.proofs.Accepted.{Sound, whole, begun}
 use Rattle.ground.proofs.Bools.{or_false}
 use Rattle.ground.proofs.Part.{length_part}
 use Rattle.ground.proofs.Draw.{always_run, draws_always}
-use Rattle.claims.specs.Ledger.{entry}
+use Rattle.claims.specs.Ledger.{act_entry}
 use Rattle.claims.proofs.Acts.{Follows, led_of, act_law}
 use Rattle.slot_bytes.proofs.Parts.{bank_after}
 use Rattle.slot_bytes.proofs.Little.{length_slot_bytes}
@@ -87,13 +87,13 @@ module _ (bs : List ℕ) (mem : List Float) (c : Call) where
 -- ---- what an accepted call leaves is a slot that the bytes can hold
 
 small_after : (act : Act) (slot : ℕ) (s : Slot) (word : ℕ) (mem : List Float) → Sound s → length mem ≡ 10240 → slot < 8 → InF32 act → first (checks s.kind act) ≡ Ok tt
-    → Numbers (moved_by act slot s word mem).slot
-unfolding moved_by
+    → Numbers (acted act slot s word mem).slot
+unfolding acted
 small_after act slot s word mem o l h i e =
     let v : Voice = record { slot = s; lines = lines_at slot mem } in
     let size : length (lines_at slot mem) ≡ 1280 = length_part (1280 * slot) 1280 mem (omega arith) in
-    let a = draws_always _ (Follows (entry act (led_of s))) (act_def act v) (act_law act v o size i e) in
-    let k = (always_run (Follows (entry act (led_of s))) (act_def act v) word a refl).ok in
+    let a = draws_always _ (Follows (act_entry act (led_of s))) (act_def act v) (act_law act v o size i e) in
+    let k = (always_run (Follows (act_entry act (led_of s))) (act_def act v) word a refl).ok in
     record { kind = omega (arith, k.known); string = omega (arith, k.string); stretch = omega (arith, k.stretch); left = omega (arith, k.left) }
 
 -- ---- the two cases
@@ -119,23 +119,23 @@ module _ (x : Crossing) (c : Call) where
       }
 
   -- an accepted call: the slot that was read and moved, and the bytes that were written
-  pub wrote : (s : Slot) (m : Moved) (bs : List ℕ) → s ≡ slot_at (decode_bank x.bytes) c.slot → moved_by c.act c.slot s x.word x.mem ≡ m
+  pub wrote : (s : Slot) (m : Acted) (bs : List ℕ) → s ≡ slot_at (decode_bank x.bytes) c.slot → acted c.act c.slot s x.word x.mem ≡ m
       → bs ≡ with_bytes c.slot (encode_slot m.slot) x.bytes → SlotF32 m.slot
       → Wrote x c (record { number = 0; counts = m.counts; after = record { bytes = bs; word = m.word; mem = m.mem }; bufs = m.bufs })
   unfolding cross_by
   wrote s m bs es em eb f =
-      let em' : moved_by c.act c.slot (slot_at (decode_bank x.bytes) c.slot) x.word x.mem ≡ m = ap (λ (y : Slot). moved_by c.act c.slot y x.word x.mem) (sym es) ∙ em in
+      let em' : acted c.act c.slot (slot_at (decode_bank x.bytes) c.slot) x.word x.mem ≡ m = ap (λ (y : Slot). acted c.act c.slot y x.word x.mem) (sym es) ∙ em in
       record {
-        is = ap (λ (q : Moved). record { number = 0; counts = q.counts; after = record { bytes = with_bytes c.slot (encode_slot q.slot) x.bytes; word = q.word; mem = q.mem }; bufs = q.bufs }) em'
+        is = ap (λ (q : Acted). record { number = 0; counts = q.counts; after = record { bytes = with_bytes c.slot (encode_slot q.slot) x.bytes; word = q.word; mem = q.mem }; bufs = q.bufs }) em'
             ∙ λ j. record { number = 0; counts = m.counts; after = record { bytes = sym eb j; word = m.word; mem = m.mem }; bufs = m.bufs };
-        held = subst (λ (q : Moved). SlotF32 q.slot) (sym em') f;
+        held = subst (λ (q : Acted). SlotF32 q.slot) (sym em') f;
       }
 
   pub accepted : (y : Crossed) → Taken x.bytes x.mem c → InF32 c.act → Wrote x c y → Gives x c y
-  unfolding cross_def cross_by call_def call_by moved_by
+  unfolding cross_def cross_by call_def call_by acted
   accepted y t i w =
       let s = slot_at (decode_bank x.bytes) c.slot in
-      let m = moved_by c.act c.slot s x.word x.mem in
+      let m = acted c.act c.slot s x.word x.mem in
       let n : Numbers m.slot = small_after c.act c.slot s x.word x.mem t.sound t.lines t.slot_within i t.rest in
       let d : decode_bank (with_bytes c.slot (encode_slot m.slot) x.bytes) ≡ with_slot (decode_bank x.bytes) c.slot m.slot =
       bank_after x.bytes (encode_slot m.slot) c.slot m.slot t.size t.slot_within (length_slot_bytes m.slot w.held.1) (decode_encode m.slot w.held n) in

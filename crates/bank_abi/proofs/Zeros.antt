@@ -12,7 +12,7 @@ use Rattle.modal_voice.specs.ModalVoice.{voice_new}
 use Rattle.waveguide.specs.String.{string_new}
 use Rattle.string_voice.specs.StringVoice as string_voice
 use Rattle.slots.specs.declared.slots.Slot.{Slot}
-use Rattle.slots.specs.Slots.{no_string, empty_slot, fresh}
+use Rattle.slots.specs.Slots.{no_string, empty_slot, fresh_bank}
 use Rattle.slot_bytes.specs.Words.{bytes, each}
 use Rattle.slot_bytes.specs.Layout.{svf_words, dc_words, string_words, voice_words, mode_words, batch_words, float_words, modal_words, slot_words, encode_slot, encode_bank}
 use Rattle.bank_abi.specs.Crossing.{fresh_def}
@@ -27,8 +27,8 @@ each_zeros zero k x e = ap (λ (m : ℕ). replicate m 0) (sym (zero-mul k))
 each_zeros (suc n) k x e =
     (λ i. e i ++ each_zeros n k x e i) ∙ replicate-append-replicate k (n * k) 0 ∙ ap (λ (m : ℕ). replicate m 0) (add_comm k (n * k) ∙ sym (suc-mul n k))
 
-pub fresh_zeros : encode_bank fresh ≡ replicate 3144 0
-unfolding encode_bank fresh
+pub fresh_zeros : encode_bank fresh_bank ≡ replicate 3144 0
+unfolding encode_bank fresh_bank
 fresh_zeros = each_zeros 8 393 empty_slot empty_zeros
 
 pub made_fresh : (bs xs : List ℕ) → length bs ≡ 3144 → xs ≡ replicate (length bs) 0 → (0, xs) ≡ fresh_def bs

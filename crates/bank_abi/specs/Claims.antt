@@ -7,7 +7,7 @@ use Rattle.ground.specs.Part.{part}
 use Rattle.slots.specs.declared.slots.Slot.{Slot}
 use Rattle.slots.specs.declared.slots.Bank.{Bank}
 use Rattle.ground.specs.Each.{Each}
-use Rattle.slot_bytes.specs.Words.{words, bytes}
+use Rattle.slot_bytes.specs.Words.{words_in, bytes}
 use Rattle.slot_bytes.specs.Layout.{SlotF32, decode_slot, encode_slot, decode_bank, encode_bank, with_bytes}
 
 -- a slot whose numbers have 32 bits
@@ -41,11 +41,11 @@ pub record SlotBytes (bs : List ℕ) : Type 0 where
 
 -- encode after decode
 abbrev pub EncodeDecode : Type 0
-EncodeDecode = (bs : List ℕ) → SlotBytes bs → encode_slot (decode_slot bs) ≡ bytes (tab 98 (λ k. kept k (get_or (words bs) k 0))) ++ (get_or bs 392 0 ∷ [])
+EncodeDecode = (bs : List ℕ) → SlotBytes bs → encode_slot (decode_slot bs) ≡ bytes (tab 98 (λ k. kept k (get_or (words_in bs) k 0))) ++ (get_or bs 392 0 ∷ [])
 
 -- a slot's bytes are the bytes of its words, and its flag
 abbrev pub Words : Type 0
-Words = (bs : List ℕ) → SlotBytes bs → bytes (tab 98 (λ k. get_or (words bs) k 0)) ++ (get_or bs 392 0 ∷ []) ≡ bs
+Words = (bs : List ℕ) → SlotBytes bs → bytes (tab 98 (λ k. get_or (words_in bs) k 0)) ++ (get_or bs 392 0 ∷ []) ≡ bs
 
 -- another slot's bytes are kept
 abbrev pub Untouched : Type 0

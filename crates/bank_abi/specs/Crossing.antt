@@ -4,17 +4,17 @@ use Rattle.noise.specs.declared.excitation.Counts.{Counts}
 use Rattle.slots.specs.declared.answers.Reason.{Reason}
 use Rattle.slots.specs.declared.answers.Reason.TheVariants.{Memory}
 use Rattle.slots.specs.Answers.{no_counts, reason_number, number_of, counts_of}
-use Rattle.slots.specs.Slots.{fresh, slot_at}
+use Rattle.slots.specs.Slots.{fresh_bank, slot_at}
 use Rattle.slots.specs.Calls.{Bufs, InF32, lent}
 use Rattle.slots.specs.Table.{Call, verdict, bad}
-use Rattle.bank.specs.World.{World, Event, moved_by, call_def, start, run_from}
+use Rattle.bank.specs.World.{World, Event, acted, call_def, start, run_from}
 use Rattle.claims.specs.Ledger.{ledger}
 use Rattle.claims.specs.Claim.{Account}
 use Rattle.slot_bytes.specs.Layout.{SlotF32, parts, decode_bank, encode_bank, with_bytes, encode_slot}
 
 -- making a fresh bank: refused with 1 where the length is another
 unfoldable pub fresh_def : List ℕ → ℕ × List ℕ
-fresh_def bs = cond (eqb (length bs) 3144) (0, encode_bank fresh) (reason_number Memory, bs)
+fresh_def bs = cond (eqb (length bs) 3144) (0, encode_bank fresh_bank) (reason_number Memory, bs)
 
 -- a flag that is neither 0 nor 1
 abbrev pub bad_flag : List ℕ → Bool
@@ -56,7 +56,7 @@ pub record Crossed : Type 0 where
 -- accepted, the slot that the call names is decoded, moved and encoded in its place; refused, nothing changes
 unfoldable pub cross_by : Result (Unit {0}) Reason → Crossing → Call → Crossed
 cross_by (Ok u) x c =
-    let m = moved_by c.act c.slot (slot_at (decode_bank x.bytes) c.slot) x.word x.mem in
+    let m = acted c.act c.slot (slot_at (decode_bank x.bytes) c.slot) x.word x.mem in
     record {
       number = 0;
       counts = m.counts;
@@ -68,7 +68,7 @@ cross_by (Err r) x c = record { number = reason_number r; counts = no_counts; af
 -- what an accepted call gives, and that its slot is one that bytes can hold
 pub record Wrote (x : Crossing) (c : Call) (y : Crossed) : Type 0 where
   pub is : cross_by (Ok tt) x c ≡ y
-  pub held : SlotF32 (moved_by c.act c.slot (slot_at (decode_bank x.bytes) c.slot) x.word x.mem).slot
+  pub held : SlotF32 (acted c.act c.slot (slot_at (decode_bank x.bytes) c.slot) x.word x.mem).slot
 
 -- a call, by the table
 unfoldable pub cross_def : Crossing → Call → Crossed
@@ -113,4 +113,4 @@ pub record Session (seed : ℕ) (mem : List Float) (rs : List (Call × Crossed))
 -- demand 3 of the exported calls: of every seed, line memory and list that a host can make
 unfoldable pub ExportedDemand3 : Type 0
 ExportedDemand3 = (seed : ℕ) → seed < 2 ^ 32 → (mem : List Float) (rs : List (Call × Crossed))
-    → Made (record { bytes = encode_bank fresh; word = seed; mem = mem }) rs → Session seed mem rs
+    → Made (record { bytes = encode_bank fresh_bank; word = seed; mem = mem }) rs → Session seed mem rs

@@ -2,7 +2,7 @@
 #![tactic(auto)]
 
 ghost use Rattle.std.specs.Prelude.{◌≡◌, ℕ, length};
-ghost use Rattle.slots.specs.Slots.{fresh};
+ghost use Rattle.slots.specs.Slots.{fresh_bank};
 ghost use Rattle.slots.specs.Answers.{no_counts};
 ghost use Rattle.slots.specs.Calls.{opening, reset, render, lent};
 ghost use Rattle.slot_bytes.specs.Layout.{encode_bank};
@@ -19,7 +19,7 @@ use slots::answers::Reason;
 #[tactic(auto, using(crate::proofs::Zeros::fresh_zeros))]
 #[unsafe(no_mangle)]
 pub extern "C" fn bleidhvan_bank_bytes() -> usize
-    ensures { result ≡ length (encode_bank fresh) }
+    ensures { result ≡ length (encode_bank fresh_bank) }
 {
     3144
 }

@@ -23,10 +23,10 @@ use Rattle.std.specs.Prelude.{Ok}
 use Rattle.slots.specs.declared.slots.Slot.{Slot}
 use Rattle.slots.specs.Slots.{no_string}
 use Rattle.slots.specs.Calls.{Bufs, Act, opening, reset, render, InF32, Voice, Done, open_def, reset_def, string_def, modal_def, render_def, act_def}
-use Rattle.slots.specs.Table.{first, within, lowest, checks}
+use Rattle.slots.specs.Table.{first, in_range, lowest, checks}
 use Rattle.noise.specs.Excitation.{Alike}
 use Rattle.bank.proofs.Accepted.{Sound, all_spared, render_spared, alike_lent}
-use Rattle.claims.specs.Ledger.{Led, Entry, string_entry, modal_entry, render_entry, entry}
+use Rattle.claims.specs.Ledger.{Led, Entry, string_entry, modal_entry, render_entry, act_entry}
 use Rattle.claims.specs.Claim.{total}
 use Rattle.claims.proofs.Agreement.{left_is, phase_is, dispersion_is}
 
@@ -116,14 +116,14 @@ module _ (k : Knobs) (b : Bufs) (v : Voice) (o : Sound v.slot) (e : length v.lin
 pub passes_test : (b : Bool) → not b ≡ false → T b
 passes_test b e = passes b (not-false b e)
 
-pub f0_in : (f0 : Float) → T (within lowest c0·5 f0) → Fundamental f0
-unfolding within
+pub f0_in : (f0 : Float) → T (in_range lowest c0·5 f0) → Fundamental f0
+unfolding in_range
 f0_in f0 t =
     let p = and_true (le lowest f0) (le f0 c0·5) t in
     fundamental f0 (is_true (le lowest f0) p.0) (is_true (le f0 c0·5) p.1)
 
-pub knob_in : (x : Float) → T (within c0 c1 x) → Knob x
-unfolding within
+pub knob_in : (x : Float) → T (in_range c0 c1 x) → Knob x
+unfolding in_range
 knob_in x t =
     let p = and_true (le c0 x) (le x c1) t in
     knob x (is_true (le c0 x) p.0) (is_true (le x c1) p.1)
@@ -131,8 +131,8 @@ knob_in x t =
 -- ---- every call for one voice
 
 open_law : (kind : ℕ) (rate : Float) (v : Voice) → length v.lines ≡ 1280 → T (eqb kind 1 || eqb kind 2)
-    → Follows (entry (opening kind rate) (led_of v.slot)) (open_def kind rate v)
-unfolding entry open_def voice_init voice_new string_new string_init string_reset no_string
+    → Follows (act_entry (opening kind rate) (led_of v.slot)) (open_def kind rate v)
+unfolding act_entry open_def voice_init voice_new string_new string_init string_reset no_string
 open_law zero rate v e t = absurd t
 open_law (suc zero) rate v e t =
     record {
@@ -155,8 +155,8 @@ open_law (suc (suc (suc j))) rate v e t = let kind = suc (suc (suc j)) in absurd
     above_two kind l false true f g t = omega (arith, g tt)
     above_two kind l false false f g t = t
 
-reset_law : (v : Voice) → Sound v.slot → length v.lines ≡ 1280 → Follows (entry reset (led_of v.slot)) (reset_def v)
-unfolding entry reset_def voice_reset string_reset
+reset_law : (v : Voice) → Sound v.slot → length v.lines ≡ 1280 → Follows (act_entry reset (led_of v.slot)) (reset_def v)
+unfolding act_entry reset_def voice_reset string_reset
 reset_law v o e =
     record {
       led = refl;
@@ -174,8 +174,8 @@ render_law (suc zero) k b v o e a f s t = string_law k b v o e a f s t
 render_law (suc (suc j)) k b v o e a f s t = modal_law k b v o e a
 
 pub act_law : (a : Act) (v : Voice) → Sound v.slot → length v.lines ≡ 1280 → InF32 a → first (checks v.slot.kind a) ≡ Ok tt
-    → ByLedger (entry a (led_of v.slot)) (act_def a v)
-unfolding act_def entry checks
+    → ByLedger (act_entry a (led_of v.slot)) (act_def a v)
+unfolding act_def act_entry checks
 act_law (opening kind rate) v o e i p =
     let c = all_spared (checks v.slot.kind (opening kind rate)) p in
     (refl, open_law kind rate v e (passes_test (eqb kind 1 || eqb kind 2) c.0))
@@ -183,5 +183,5 @@ act_law reset v o e i p = (refl, reset_law v o e)
 act_law (render k b) v o e i p =
     let c = render_spared v.slot.kind k b p in
     render_law v.slot.kind k b v o e (alike_lent v.slot.kind k b p)
-    (f0_in k.f0 (passes_test (within lowest c0·5 k.f0) c.1.1.1.0))
-    (knob_in k.structure (passes_test (within c0 c1 k.structure) c.1.1.1.1.1.0)) i
+    (f0_in k.f0 (passes_test (in_range lowest c0·5 k.f0) c.1.1.1.0))
+    (knob_in k.structure (passes_test (in_range c0 c1 k.structure) c.1.1.1.1.1.0)) i

@@ -7,7 +7,7 @@ use lib.Ieee.{Float, binary32, of_bits, fits, lt, le, to_unsigned}
 use denote.Floats.{is_true}
 use Rattle.ground.specs.F32.{◌⊕◌, ◌⊗◌, ◌⊘◌, c0·26, c0·5, c0·9999, c1, c2, c4, c1020, two_to64}
 use Rattle.ground.specs.Floats.{whole_part, clamp_f}
-use Rattle.utils.specs.Filter.{svf_setFQ}
+use Rattle.utils.specs.Filter.{svf_set_f_q}
 use Rattle.utils.specs.declared.filter.FrequencyApproximation.TheVariants.{Dirty}
 use Rattle.ground.proofs.Frames.{after, drawn}
 use Rattle.bounds.proofs.Order.{le_trans_float, lt_of_le}
@@ -18,7 +18,7 @@ use Rattle.waveguide.specs.declared.string.String.{String}
 use Rattle.string_voice.specs.declared.string_voice.StringVoice.{StringVoice}
 use Rattle.waveguide.specs.String.{delay_of, ratio_of, snap}
 use Rattle.waveguide.specs.Kept.{words_of}
-use Rattle.string_voice.specs.StringVoice.{cutoff_for, struck}
+use Rattle.string_voice.specs.StringVoice.{cutoff_for, strike}
 use Rattle.waveguide.proofs.Steps.{wrap}
 use Rattle.waveguide.proofs.Blocks.{ratio_for}
 use Rattle.noise.proofs.Ranges.{Knob, Fundamental}
@@ -44,11 +44,11 @@ abbrev pub begun : Knobs → ℕ → ℕ
 begun k left = cond (k.trigger || k.sustain) (period k.f0) left
 
 pub left_is : (k : Knobs) (v : StringVoice) → Fundamental k.f0 → voice.left_at k v ≡ begun k v.remaining_noise_samples
-unfolding struck
+unfolding strike
 left_is k v f = go (k.trigger || k.sustain)
   where
     go : (b : Bool)
-        → (cond b (record { excitation_filter = svf_setFQ v.excitation_filter (cutoff_for k) (cond k.sustain c1 c0·5) Dirty; string = v.string; remaining_noise_samples = whole_part (c1 ⊘ k.f0) }) v).remaining_noise_samples
+        → (cond b (record { excitation_filter = svf_set_f_q v.excitation_filter (cutoff_for k) (cond k.sustain c1 c0·5) Dirty; string = v.string; remaining_noise_samples = whole_part (c1 ⊘ k.f0) }) v).remaining_noise_samples
         ≡ cond b (period k.f0) v.remaining_noise_samples
     go true = period_is k.f0 f
     go false = refl

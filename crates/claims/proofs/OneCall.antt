@@ -27,10 +27,10 @@ use Rattle.slots.specs.Answers.{counts_of}
 use Rattle.slots.specs.Slots.{no_string, empty_slot, slot_at, with_slot}
 use Rattle.slots.specs.Calls.{Act, opening, reset, render, InF32, Voice, Done, act_def}
 use Rattle.slots.specs.Table.{Call, ◌⇐◌, first, checks, verdict, bad_slot, bad_slots, bad}
-use Rattle.bank.specs.World.{World, lines_at, with_lines, voice_at, Event, moved_by, call_by, call_def}
+use Rattle.bank.specs.World.{World, lines_at, with_lines, voice_at, Event, acted, call_by, call_def}
 use Rattle.bank.proofs.Accepted.{Sound, spared}
-use Rattle.claims.specs.Ledger.{Led, fresh_led, Entry, entry, Line, line_by, line_of}
-use Rattle.claims.specs.Claim.{nothing, given, feed, of_done, hear, seen, total, in_halves, Ordered}
+use Rattle.claims.specs.Ledger.{Led, fresh_led, Entry, act_entry, Line, line_by, line_of}
+use Rattle.claims.specs.Claim.{nothing, given, feed, of_done, listen, seen, total, call_order, Ordered}
 use Rattle.claims.proofs.Acts.{led_of, Follows, ByLedger, act_law}
 use Rattle.claims.proofs.Order.{order_law}
 
@@ -87,11 +87,11 @@ pub record Step (w : World) (ls : List Led) (c : Call) (e : Event) (l : Line) : 
   pub inv : Inv e.after
   pub dealt_is : e.dealt ≡ stream (total (counts_of e.answer)) w.word
   pub ends_is : e.after.word ≡ moved (total (counts_of e.answer)) w.word
-  pub alone_is : (s : ℕ) → s < 8 → hear (voice_at s w) (feed s c l.answer e.dealt) ≡ some (seen s e)
+  pub alone_is : (s : ℕ) → s < 8 → listen (voice_at s w) (feed s c l.answer e.dealt) ≡ some (seen s e)
   pub ordered_is : Ordered e
 
 -- a refused call is dealt no words
-pub none_dealt : (a : Act) (r : Reason) (v : Voice) (word : ℕ) → in_halves a (Err r) v word []
+pub none_dealt : (a : Act) (r : Reason) (v : Voice) (word : ℕ) → call_order a (Err r) v word []
 none_dealt (opening kind rate) r v word = refl
 none_dealt reset r v word = refl
 none_dealt (render k b) r v word = refl
@@ -111,7 +111,7 @@ module _ (w : World) (v : Inv w) (c : Call) where
     d = value m w.word
 
     en : Entry
-    en = entry c.act (led_of (slot_at w.bank c.slot))
+    en = act_entry c.act (led_of (slot_at w.bank c.slot))
 
     law : ByLedger en m
     unfolding m en
@@ -123,9 +123,9 @@ module _ (w : World) (v : Inv w) (c : Call) where
     unfolding d
     good = always_run (Follows en) m w.word (draws_always (total en.counts) (Follows en) m law) refl
 
-    entry_is : entry c.act (get_or (leds w) c.slot fresh_led) ≡ en
+    entry_is : act_entry c.act (get_or (leds w) c.slot fresh_led) ≡ en
     unfolding en
-    entry_is = ap (entry c.act) (led_at w c.slot)
+    entry_is = ap (act_entry c.act) (led_at w c.slot)
 
     many : length (words m w.word) ≡ total d.counts
     many = draws_length (total en.counts) (Follows en) m w.word law ∙ ap total (sym good.counts)
@@ -159,11 +159,11 @@ module _ (w : World) (v : Inv w) (c : Call) where
         }
 
     heard : (s : ℕ) (b : Bool) → eqb c.slot s ≡ b
-        → hear (voice_at s w) (cond b (given c.act (words m w.word)) nothing)
+        → listen (voice_at s w) (cond b (given c.act (words m w.word)) nothing)
         ≡ some (record { voice = voice_at s after; bufs = cond b (some d.bufs) none })
     unfolding d m
     heard s true e =
-        subst (λ (t : ℕ). hear (voice_at t w) (given c.act (words m w.word)) ≡ some (record { voice = voice_at t after; bufs = some d.bufs }))
+        subst (λ (t : ℕ). listen (voice_at t w) (given c.act (words m w.word)) ≡ some (record { voice = voice_at t after; bufs = some d.bufs }))
         (eqb-true c.slot s e)
         (ap of_done (fed_words m w.word) ∙ (λ i. some (record { voice = sym voice_same i; bufs = some d.bufs })))
     heard s false e =
@@ -171,7 +171,7 @@ module _ (w : World) (v : Inv w) (c : Call) where
         λ i. some (record { voice = sym (voice_other s n) i; bufs = none })
 
     accepted : Step w (leds w) c (call_by (Ok tt) w c) (line_by (Ok tt) (leds w) c)
-    unfolding call_by moved_by line_by m d after
+    unfolding call_by acted line_by m d after
     accepted =
         record {
           same = λ i. Ok ((good.counts ∙ ap (λ (x : Entry). x.counts) (sym entry_is)) i);

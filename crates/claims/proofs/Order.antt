@@ -18,7 +18,7 @@ use Rattle.modal_voice.proofs.Drawn as modal
 use Rattle.std.specs.Prelude.{Ok}
 use Rattle.slots.specs.Calls.{Bufs, Act, opening, reset, render, Voice, Done, string_def, modal_def, render_def, act_def}
 use Rattle.slots.specs.Table.{first, checks}
-use Rattle.claims.specs.Claim.{halves, in_halves}
+use Rattle.claims.specs.Claim.{render_order, call_order}
 use Rattle.noise.specs.Excitation.{Alike}
 use Rattle.bank.proofs.Accepted.{Sound, alike_lent}
 
@@ -29,7 +29,7 @@ by_both false l n = omega arith
 
 module _ (k : Knobs) (b : Bufs) (v : Voice) (w : ℕ) (a : Alike b.temp b.temp2 b.out b.aux) where
   module _ (o : Sound v.slot) (size : length v.lines ≡ 1280) where
-    string_order : halves 1 k b v w (value (string_def k b v) w).counts (words (string_def k b v) w)
+    string_order : render_order 1 k b v w (value (string_def k b v) w).counts (words (string_def k b v) w)
     unfolding string_def S.render_of
     string_order =
         let n = length b.temp in
@@ -52,7 +52,7 @@ module _ (k : Knobs) (b : Bufs) (v : Voice) (w : ℕ) (a : Alike b.temp b.temp2 
               ∙ ap (λ (q : String). string.dispersion_words k q n) f.string ∙ ap (λ (c : Counts). c.dispersion) (sym c);
         }
 
-  modal_order : (j : ℕ) → halves (suc (suc j)) k b v w (value (modal_def k b v) w).counts (words (modal_def k b v) w)
+  modal_order : (j : ℕ) → render_order (suc (suc j)) k b v w (value (modal_def k b v) w).counts (words (modal_def k b v) w)
   unfolding modal_def M.render_of M.sound_of
   modal_order j =
       let n = length b.temp in
@@ -70,7 +70,7 @@ module _ (k : Knobs) (b : Bufs) (v : Voice) (w : ℕ) (a : Alike b.temp b.temp2 
 
 -- a call that the table accepts
 pub order_law : (a : Act) (v : Voice) (w : ℕ) → Sound v.slot → length v.lines ≡ 1280 → first (checks v.slot.kind a) ≡ Ok tt
-    → in_halves a (Ok (value (act_def a v) w).counts) v w (words (act_def a v) w)
+    → call_order a (Ok (value (act_def a v) w).counts) v w (words (act_def a v) w)
 unfolding act_def checks render_def
 order_law (opening kind rate) v w o e p = refl
 order_law reset v w o e p = refl
@@ -79,7 +79,7 @@ order_law (render k b) v w o e p = by_kind v.slot.kind
     same : Alike b.temp b.temp2 b.out b.aux
     same = alike_lent v.slot.kind k b p
 
-    by_kind : (kind : ℕ) → halves kind k b v w (value (render_def kind k b v) w).counts (words (render_def kind k b v) w)
+    by_kind : (kind : ℕ) → render_order kind k b v w (value (render_def kind k b v) w).counts (words (render_def kind k b v) w)
     by_kind zero = tt
     by_kind (suc zero) = string_order k b v w same o e
     by_kind (suc (suc j)) = modal_order k b v w same j

@@ -20,12 +20,12 @@ use Rattle.string_voice.specs.StringVoice as string_voice
 use Rattle.slots.specs.declared.answers.Reason.{Reason}
 use Rattle.slots.specs.declared.answers.Reason.TheVariants.{Memory}
 use Rattle.slots.specs.Answers.{counts_of, number_of}
-use Rattle.slots.specs.Slots.{no_string, empty_slot, fresh}
+use Rattle.slots.specs.Slots.{no_string, empty_slot, fresh_bank}
 use Rattle.slots.specs.Calls.{InF32, Voice}
 use Rattle.slots.specs.Table.{Call, first, verdict, bad}
 use Rattle.bank.specs.World.{World, start, lines_at, voice_at, Event, call_by, call_def, run_from, end_from}
 use Rattle.claims.specs.Ledger.{Led, fresh_led, Line, line_by, line_of, ledger_from, ledger}
-use Rattle.claims.specs.Claim.{Feed, feed, feeds, Heard, hear, note, go_on, alone, seen, sum_of, total, drawn, dealt, Kept, Account, Ordered, Asked, calls_of, Demand3}
+use Rattle.claims.specs.Claim.{Feed, feed, feeds, Noted, listen, note, go_on, alone, seen, sum_of, total, drawn, dealt, Kept, Account, Ordered, Asked, calls_of, Demand3}
 use Rattle.bank.proofs.Accepted.{Sound}
 use Rattle.claims.proofs.OneCall.{Inv, leds, Step, none_dealt, step}
 
@@ -38,10 +38,10 @@ record Facts (w : World) (calls : List Call) (es : List Event) (ns : List Line) 
   apart : (s : ℕ) → s < 8 → alone (voice_at s w) (feeds s calls ns (map (λ e. e.dealt) es)) ≡ some (map (seen s) es)
   in_order : Each Ordered es
 
-hear_on : (v v' : Voice) (f : Feed) (fs : List Feed) (h : Heard) (hs : List Heard) → hear v f ≡ some h → h.voice ≡ v' → alone v' fs ≡ some hs
+hear_on : (v v' : Voice) (f : Feed) (fs : List Feed) (h : Noted) (hs : List Noted) → listen v f ≡ some h → h.voice ≡ v' → alone v' fs ≡ some hs
     → alone v (f ∷ fs) ≡ some (h ∷ hs)
 hear_on v v' f fs h hs p q r =
-    ap (λ (o : Option Heard). go_on o (λ u. alone u fs)) p ∙ ap (λ (u : Voice). note h (alone u fs)) q ∙ ap (note h) r
+    ap (λ (o : Option Noted). go_on o (λ u. alone u fs)) p ∙ ap (λ (u : Voice). note h (alone u fs)) q ∙ ap (note h) r
 
 facts : (calls : List Call) (w : World) (ls : List Led) → ls ≡ leds w → Inv w → Each (λ c. InF32 c.act) calls
     → Facts w calls (run_from w calls) (ledger_from 10240 ls calls)
@@ -140,7 +140,7 @@ unfolding empty_slot no_string string_voice.voice_new string_new
 empty_ok = record { known = lit≤ tt; string = lit< tt; stretch = lit< tt; left = zero-le }
 
 fresh_inv : (seed : ℕ) (mem : List Float) → length mem ≡ 10240 → Inv (start seed mem)
-unfolding fresh
+unfolding fresh_bank
 fresh_inv seed mem e =
     record {
       full = e;
@@ -149,11 +149,11 @@ fresh_inv seed mem e =
     }
 
 fresh_leds : (seed : ℕ) (mem : List Float) → replicate 8 fresh_led ≡ leds (start seed mem)
-unfolding fresh empty_slot no_string string_voice.voice_new string_new
+unfolding fresh_bank empty_slot no_string string_voice.voice_new string_new
 fresh_leds seed mem = refl
 
 fresh_voice : (seed : ℕ) (mem : List Float) (s : ℕ) → s < 8 → voice_at s (start seed mem) ≡ record { slot = empty_slot; lines = lines_at s mem }
-unfolding fresh
+unfolding fresh_bank
 fresh_voice seed mem s h i = record { slot = get_or-replicate 8 s empty_slot empty_slot h i; lines = lines_at s mem }
 
 module _ (seed : ℕ) (mem : List Float) (calls : List Call) where

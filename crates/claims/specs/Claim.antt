@@ -35,30 +35,30 @@ feeds s (c ∷ cs) (l ∷ ls) [] = []
 feeds s (c ∷ cs) (l ∷ ls) (ws ∷ wss) = feed s c l.answer ws ∷ feeds s cs ls wss
 
 -- what is heard of it at a call: the voice after it, and the buffers after a call of its own
-pub record Heard : Type 0 where
+pub record Noted : Type 0 where
   pub voice : Voice
   pub bufs : Option Bufs
 
-abbrev pub of_done : Option Done → Option Heard
+abbrev pub of_done : Option Done → Option Noted
 of_done none = none
 of_done (some d) = some (record { voice = d.voice; bufs = some d.bufs })
 
 -- each call moves it by its definition, whose draws take the words fed: `none` where one is lacking or over
-abbrev pub hear : Voice → Feed → Option Heard
-hear v nothing = some (record { voice = v; bufs = none })
-hear v (given a ws) = of_done (fed (act_def a v) ws)
+abbrev pub listen : Voice → Feed → Option Noted
+listen v nothing = some (record { voice = v; bufs = none })
+listen v (given a ws) = of_done (fed (act_def a v) ws)
 
-abbrev pub note : Heard → Option (List Heard) → Option (List Heard)
+abbrev pub note : Noted → Option (List Noted) → Option (List Noted)
 note h none = none
 note h (some hs) = some (h ∷ hs)
 
-abbrev pub go_on : Option Heard → (Voice → Option (List Heard)) → Option (List Heard)
+abbrev pub go_on : Option Noted → (Voice → Option (List Noted)) → Option (List Noted)
 go_on none k = none
 go_on (some h) k = note h (k h.voice)
 
-abbrev pub alone : Voice → List Feed → Option (List Heard)
+abbrev pub alone : Voice → List Feed → Option (List Noted)
 alone v [] = some []
-alone v (f ∷ fs) = go_on (hear v f) (λ u. alone u fs)
+alone v (f ∷ fs) = go_on (listen v f) (λ u. alone u fs)
 
 -- ---- the same, of slot s in the bank after an event
 
@@ -66,7 +66,7 @@ abbrev pub own : ℕ → Result Counts Reason → Event → Option Bufs
 own s (Ok n) e = cond (eqb e.call.slot s) (some e.bufs) none
 own s (Err r) e = none
 
-abbrev pub seen : ℕ → Event → Heard
+abbrev pub seen : ℕ → Event → Noted
 seen s e = record { voice = voice_at s e.after; bufs = own s e.answer e }
 
 -- ---- sums over the list
@@ -106,20 +106,20 @@ pub record InOrder {X Y : Type 0} (first : Draw X) (second : X → Draw Y) (w : 
   pub string : length (words (second (value first w)) (ending first w)) ≡ n.dispersion
 
 -- the halves of a render, by the slot's kind: its excitation, and then its string or its modes
-abbrev pub halves : ℕ → Knobs → Bufs → Voice → ℕ → Counts → List ℕ → Type 0
-halves zero k b v = λ w n dealt. Unit {0}
-halves (suc zero) k b v =
+abbrev pub render_order : ℕ → Knobs → Bufs → Voice → ℕ → Counts → List ℕ → Type 0
+render_order zero k b v = λ w n dealt. Unit {0}
+render_order (suc zero) k b v =
     InOrder (string.excite_of k v.slot.string b.temp b.temp2 b.aux) (λ e. string.sound_of k e.voice v.lines e.temp2 b.out)
-halves (suc (suc j)) k b v =
+render_order (suc (suc j)) k b v =
     InOrder (modal.excite_of k v.slot.modal b.temp b.temp2 b.aux) (λ e. modal.sound_of k e.voice e.temp2 b.out)
 
 -- of a render that is accepted; no other call is dealt words
-abbrev pub in_halves : Act → Result Counts Reason → Voice → ℕ → List ℕ → Type 0
-in_halves (render k b) (Ok n) v w dealt = halves v.slot.kind k b v w n dealt
-in_halves a r v w dealt = dealt ≡ []
+abbrev pub call_order : Act → Result Counts Reason → Voice → ℕ → List ℕ → Type 0
+call_order (render k b) (Ok n) v w dealt = render_order v.slot.kind k b v w n dealt
+call_order a r v w dealt = dealt ≡ []
 
 abbrev pub Ordered : Event → Type 0
-Ordered e = in_halves e.call.act e.answer (voice_at e.call.slot e.before) e.before.word e.dealt
+Ordered e = call_order e.call.act e.answer (voice_at e.call.slot e.before) e.before.word e.dealt
 
 -- ---- the claim
 

@@ -75,10 +75,10 @@ render_entry zero k n l = record { led = l; counts = no_counts }
 render_entry (suc zero) k n l = string_entry k n l
 render_entry (suc (suc j)) k n l = modal_entry k n l
 
-unfoldable pub entry : Act → Led → Entry
-entry (opening kind rate) l = record { led = record { kind = kind; left = 0; phase = c0 }; counts = no_counts }
-entry reset l = record { led = record l { phase = c0 }; counts = no_counts }
-entry (render k b) l = render_entry l.kind k (length b.temp) l
+unfoldable pub act_entry : Act → Led → Entry
+act_entry (opening kind rate) l = record { led = record { kind = kind; left = 0; phase = c0 }; counts = no_counts }
+act_entry reset l = record { led = record l { phase = c0 }; counts = no_counts }
+act_entry (render k b) l = render_entry l.kind k (length b.temp) l
 
 -- a call's answer by the ledger, and the slots after it
 pub record Line : Type 0 where
@@ -88,7 +88,7 @@ pub record Line : Type 0 where
 -- refused calls change nothing
 unfoldable pub line_by : Result (Unit {0}) Reason → List Led → Call → Line
 line_by (Ok u) ls c =
-    let e = entry c.act (get_or ls c.slot fresh_led) in
+    let e = act_entry c.act (get_or ls c.slot fresh_led) in
     record { answer = Ok e.counts; slots = set ls c.slot e.led }
 line_by (Err r) ls c = record { answer = Err r; slots = ls }
 

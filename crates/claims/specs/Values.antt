@@ -12,11 +12,11 @@ use Rattle.slots.specs.declared.slots.Slot.{Slot}
 use Rattle.slots.specs.declared.slots.Bank.{Bank}
 use Rattle.slots.specs.declared.answers.Reason.{Reason}
 use Rattle.slots.specs.Answers.{no_counts, reason_number}
-use Rattle.slots.specs.Slots.{no_string, empty_slot, fresh, slot_at, with_slot}
+use Rattle.slots.specs.Slots.{no_string, empty_slot, fresh_bank, slot_at, with_slot}
 use Rattle.slots.specs.Calls.{opening, reset, render}
-use Rattle.slots.specs.Table.{Call, first, within, alike, checks, bad_slot, bad_slots, bad, verdict}
+use Rattle.slots.specs.Table.{Call, first, in_range, alike, checks, bad_slot, bad_slots, bad, verdict}
 use Rattle.claims.specs.Ledger.{fresh_led, period, held_period, ratio, whole, next_phase, phase_after, steps, string_entry, render_entry}
-use Rattle.claims.specs.Ledger.{entry, line_by, line_of, ledger_from, ledger}
+use Rattle.claims.specs.Ledger.{act_entry, line_by, line_of, ledger_from, ledger}
 
 -- ---- calls
 
@@ -33,8 +33,8 @@ abbrev pub rendered : ℕ → Knobs → ℕ → ℕ → ℕ → ℕ → Call
 rendered s k temp temp2 out aux = record { slot = s; act = render k (record { temp = zeros temp; temp2 = zeros temp2; out = zeros out; aux = zeros aux }) }
 
 -- a render of slot 0, of n frames: trigger, no sustain, structure 0.5
-abbrev pub struck : Float → ℕ → Call
-struck f0 n = rendered 0 (knobs f0 c0·5 c0·5 c0·5 c0·5) n n n n
+abbrev pub block_of : Float → ℕ → Call
+block_of f0 n = rendered 0 (knobs f0 c0·5 c0·5 c0·5 c0·5) n n n n
 
 -- ---- the ledger: a fresh string, f0 = 1/2048, 8 frames, trigger, no sustain, structure 0.5
 
@@ -42,7 +42,7 @@ abbrev low : Float
 low = fin false 1 (negsuc 10)
 
 abbrev calls : List Call
-calls = record { slot = 0; act = opening 1 c48000 } ∷ struck low 8 ∷ []
+calls = record { slot = 0; act = opening 1 c48000 } ∷ block_of low 8 ∷ []
 
 -- ratio 255/512, and it does not become 1
 pub ratio_value : ratio low ≡ fin false 255 (negsuc 8)
@@ -61,7 +61,7 @@ steps_value = refl
 -- burst 8, dust 0, dispersion 3, and left 2040
 pub ledger_value : map {B = Result Counts Reason × ℕ} (λ l. (l.answer, (get_or l.slots 0 fresh_led).left)) (ledger 10240 calls)
     ≡ (Ok no_counts, 0) ∷ (Ok (record { burst = 8; dust = 0; dispersion = 3 }), 2040) ∷ []
-unfolding ledger ledger_from line_of line_by verdict first checks within alike entry render_entry string_entry period steps
+unfolding ledger ledger_from line_of line_by verdict first checks in_range alike act_entry render_entry string_entry period steps
     phase_after next_phase whole ratio held_period add sub mul div lt le of_bits to_unsigned
 ledger_value = refl
 
@@ -74,13 +74,13 @@ pub record Row : Type 0 where
   pub call : Call
   pub number : ℕ
 
-abbrev number_of : Result (Unit {0}) Reason → ℕ
-number_of (Ok u) = 0
-number_of (Err r) = reason_number r
+abbrev table_number : Result (Unit {0}) Reason → ℕ
+table_number (Ok u) = 0
+table_number (Err r) = reason_number r
 
 -- the number that the table gives
 unfoldable pub given : Row → ℕ
-given r = number_of (verdict (bad r.bank (zeros r.memory)) (slot_at r.bank r.call.slot).kind r.call)
+given r = table_number (verdict (bad r.bank (zeros r.memory)) (slot_at r.bank r.call.slot).kind r.call)
 
 -- a slot of a kind, and of these write places and this left
 abbrev slot_with : ℕ → ℕ → ℕ → ℕ → Slot
@@ -90,14 +90,14 @@ slot_with kind string stretch left =
     record empty_slot { kind = kind; string = record v { string = s; remaining_noise_samples = left } }
 
 -- a string in slot 0, a modal voice in slot 1, and slot 7 as it is asked
-abbrev held : Slot → Bank
-held x = with_slot (with_slot (with_slot fresh 0 (slot_with 1 0 0 0)) 1 (slot_with 2 0 0 0)) 7 x
+abbrev bank_with : Slot → Bank
+bank_with x = with_slot (with_slot (with_slot fresh_bank 0 (slot_with 1 0 0 0)) 1 (slot_with 2 0 0 0)) 7 x
 
 abbrev both : Bank
-both = held empty_slot
+both = bank_with empty_slot
 
-abbrev bits : ℕ → Float
-bits w = of_bits binary32 w
+abbrev f32 : ℕ → Float
+f32 w = of_bits binary32 w
 
 -- a call on that bank, and its number
 infix 80 ◌⟹◌
@@ -106,10 +106,10 @@ c ⟹ n = record { bank = both; memory = 10240; call = c; number = n }
 
 -- number 1: line memory of another length, and slot 7 at and past the last value of each number that is read, while slot 0 is called
 abbrev memories : List Row
-memories = map (λ (m : ℕ × ℕ). record { bank = both; memory = m.0; call = struck c0·5 4; number = m.1 }) ((10239, 1) ∷ (10240, 0) ∷ (10241, 1) ∷ (0, 1) ∷ [])
+memories = map (λ (m : ℕ × ℕ). record { bank = both; memory = m.0; call = block_of c0·5 4; number = m.1 }) ((10239, 1) ∷ (10240, 0) ∷ (10241, 1) ∷ (0, 1) ∷ [])
 
 abbrev slots : List Row
-slots = map (λ (x : Slot × ℕ). record { bank = held x.0; memory = 10240; call = struck c0·5 4; number = x.1 }) (
+slots = map (λ (x : Slot × ℕ). record { bank = bank_with x.0; memory = 10240; call = block_of c0·5 4; number = x.1 }) (
     (slot_with 2 1023 255 1048576, 0)
     ∷ (slot_with 3 0 0 0, 1)
     ∷ (slot_with 0 1024 0 0, 1)
@@ -119,24 +119,24 @@ slots = map (λ (x : Slot × ℕ). record { bank = held x.0; memory = 10240; cal
     )
 
 -- numbers 2 to 6: the slot, the kind, the sample rate, an empty slot, and a reset of a modal voice
-abbrev opened : ℕ → ℕ → Float → Call
-opened s kind rate = record { slot = s; act = opening kind rate }
+abbrev open_call : ℕ → ℕ → Float → Call
+open_call s kind rate = record { slot = s; act = opening kind rate }
 
 abbrev openings : List Row
 openings =
-    opened 7 1 c48000 ⟹ 0
-    ∷ opened 8 1 c48000 ⟹ 2
-    ∷ opened 0 0 c48000 ⟹ 3
-    ∷ opened 0 1 c48000 ⟹ 0
-    ∷ opened 0 2 c48000 ⟹ 0
-    ∷ opened 0 3 c48000 ⟹ 3
-    ∷ opened 0 1 (bits 0x45fa0000) ⟹ 0
-    ∷ opened 0 1 (bits 0x45f9ffff) ⟹ 4
-    ∷ opened 0 2 (bits 0x483b8000) ⟹ 0
-    ∷ opened 0 2 (bits 0x483b8001) ⟹ 4
-    ∷ opened 0 1 nan ⟹ 4
-    ∷ opened 8 3 nan ⟹ 2
-    ∷ opened 0 3 nan ⟹ 3
+    open_call 7 1 c48000 ⟹ 0
+    ∷ open_call 8 1 c48000 ⟹ 2
+    ∷ open_call 0 0 c48000 ⟹ 3
+    ∷ open_call 0 1 c48000 ⟹ 0
+    ∷ open_call 0 2 c48000 ⟹ 0
+    ∷ open_call 0 3 c48000 ⟹ 3
+    ∷ open_call 0 1 (f32 0x45fa0000) ⟹ 0
+    ∷ open_call 0 1 (f32 0x45f9ffff) ⟹ 4
+    ∷ open_call 0 2 (f32 0x483b8000) ⟹ 0
+    ∷ open_call 0 2 (f32 0x483b8001) ⟹ 4
+    ∷ open_call 0 1 nan ⟹ 4
+    ∷ open_call 8 3 nan ⟹ 2
+    ∷ open_call 0 3 nan ⟹ 3
     ∷ []
 
 abbrev resets : List Row
@@ -171,12 +171,12 @@ asked k = rendered 0 k 4 4 4 4
 
 abbrev fundamentals : List Row
 fundamentals = map (λ (x : Float × ℕ). asked (knobs x.0 c0·5 c0·5 c0·5 c0·5) ⟹ x.1) (
-    (bits 0x35800000, 0) ∷ (bits 0x357fffff, 9) ∷ (bits 0x3f000000, 0) ∷ (bits 0x3f000001, 9) ∷ (bits 0x80000000, 9) ∷ (nan, 9) ∷ []
+    (f32 0x35800000, 0) ∷ (f32 0x357fffff, 9) ∷ (f32 0x3f000000, 0) ∷ (f32 0x3f000001, 9) ∷ (f32 0x80000000, 9) ∷ (nan, 9) ∷ []
     )
 
 abbrev of_knob : (Float → Knobs) → ℕ → List Row
 of_knob k n = map (λ (x : Float × ℕ). asked (k x.0) ⟹ x.1) (
-    (bits 0, 0) ∷ (bits 0x80000000, 0) ∷ (bits 0x80000001, n) ∷ (bits 0x3f800000, 0) ∷ (bits 0x3f800001, n) ∷ (nan, n) ∷ []
+    (f32 0, 0) ∷ (f32 0x80000000, 0) ∷ (f32 0x80000001, n) ∷ (f32 0x3f800000, 0) ∷ (f32 0x3f800001, n) ∷ (nan, n) ∷ []
     )
 
 -- calls for which all of 2 to 13 that can apply together do, and then all but those before each
@@ -205,5 +205,5 @@ rows =
 
 -- the table gives each row its number
 pub rows_value : map given rows ≡ map (λ r. r.number) rows
-unfolding given verdict first checks within alike bad bad_slots bad_slot fresh empty_slot no_string string_voice.voice_new string_new lt le of_bits
+unfolding given verdict first checks in_range alike bad bad_slots bad_slot fresh_bank empty_slot no_string string_voice.voice_new string_new lt le of_bits
 rows_value = refl

@@ -4,32 +4,32 @@ use Rattle.std.proofs.Common.{◌≡◌, ℕ, zero, suc, ◌+◌, ◌<◌, List,
 use mathlib.Core.Path.{fun_ext}
 use mathlib.Core.Option.{some}
 use Rattle.ground.specs.Draw.{Draw, ret, ask, Ran, moved, stream, run, value, ending, words, fed, counted, ◌>>=◌}
-use Rattle.ground.specs.Random.{next}
+use Rattle.ground.specs.Random.{get_word}
 
 -- ---- the generator
 
-pub moved_next : (n w : ℕ) → moved n (next w) ≡ next (moved n w)
+pub moved_next : (n w : ℕ) → moved n (get_word w) ≡ get_word (moved n w)
 moved_next zero w = refl
-moved_next (suc n) w = ap next (moved_next n w)
+moved_next (suc n) w = ap get_word (moved_next n w)
 
 pub moved_add : (n m w : ℕ) → moved (n + m) w ≡ moved m (moved n w)
 moved_add zero m w = ap (λ (k : ℕ). moved k w) (zero-add m)
-moved_add (suc n) m w = ap (λ (k : ℕ). moved k w) (suc-add n m) ∙ ap next (moved_add n m w) ∙ sym (moved_next m (moved n w))
+moved_add (suc n) m w = ap (λ (k : ℕ). moved k w) (suc-add n m) ∙ ap get_word (moved_add n m w) ∙ sym (moved_next m (moved n w))
 
 pub stream_add : (n m w : ℕ) → stream (n + m) w ≡ stream n w ++ stream m (moved n w)
 stream_add zero m w = ap (λ (k : ℕ). stream k w) (zero-add m)
 stream_add (suc n) m w =
     ap (λ (k : ℕ). stream k w) (suc-add n m)
-    ∙ ap (λ (r : List ℕ). next w ∷ r) (stream_add n m (next w) ∙ ap (λ (x : ℕ). stream n (next w) ++ stream m x) (moved_next n w))
+    ∙ ap (λ (r : List ℕ). get_word w ∷ r) (stream_add n m (get_word w) ∙ ap (λ (x : ℕ). stream n (get_word w) ++ stream m x) (moved_next n w))
 
 pub length_stream : (n w : ℕ) → length (stream n w) ≡ n
 length_stream zero w = refl
-length_stream (suc n) w = ap suc (length_stream n (next w))
+length_stream (suc n) w = ap suc (length_stream n (get_word w))
 
 pub stream_at : (n w k d : ℕ) → k < n → get_or (stream n w) k d ≡ moved (suc k) w
 stream_at zero w k d h = absurd (not-suc-le-zero h)
 stream_at (suc n) w zero d h = refl
-stream_at (suc n) w (suc k) d h = stream_at n (next w) k d (le_of_suc-le-suc h) ∙ ap next (moved_next k w)
+stream_at (suc n) w (suc k) d h = stream_at n (get_word w) k d (le_of_suc-le-suc h) ∙ ap get_word (moved_next k w)
 
 -- ---- from the generator to a list fed
 
@@ -37,24 +37,24 @@ module _ {A : Type 0} where
   -- fed the words that it drew, a computation gives the same, none lacking and none over
   pub fed_words : (m : Draw A) (w : ℕ) → fed m (words m w) ≡ some (value m w)
   fed_words (ret a) w = refl
-  fed_words (ask k) w = fed_words (k (next w)) (next w)
+  fed_words (ask k) w = fed_words (k (get_word w)) (get_word w)
 
   -- the words drawn are the generator's next ones
   pub words_are : (m : Draw A) (w : ℕ) → words m w ≡ stream (length (words m w)) w
   words_are (ret a) w = refl
-  words_are (ask k) w = ap (λ (r : List ℕ). next w ∷ r) (words_are (k (next w)) (next w))
+  words_are (ask k) w = ap (λ (r : List ℕ). get_word w ∷ r) (words_are (k (get_word w)) (get_word w))
 
   -- the generator ends as many words on
   pub ending_is : (m : Draw A) (w : ℕ) → ending m w ≡ moved (length (words m w)) w
   ending_is (ret a) w = refl
-  ending_is (ask k) w = ending_is (k (next w)) (next w) ∙ moved_next (length (words (k (next w)) (next w))) w
+  ending_is (ask k) w = ending_is (k (get_word w)) (get_word w) ∙ moved_next (length (words (k (get_word w)) (get_word w))) w
 
 -- ---- one after the other
 
 module _ {A B : Type 0} where
   pub run_bind : (m : Draw A) (f : A → Draw B) (w : ℕ) → run (m >>= f) w ≡ run (f (run m w).value) (run m w).word
   run_bind (ret a) f w = refl
-  run_bind (ask k) f w = run_bind (k (next w)) f (next w)
+  run_bind (ask k) f w = run_bind (k (get_word w)) f (get_word w)
 
   -- what the first is known to give goes into the second
   pub run_then : (m : Draw A) (f : A → Draw B) (w : ℕ) {r : Ran A} → run m w ≡ r → run (m >>= f) w ≡ run (f r.value) r.word
@@ -63,12 +63,12 @@ module _ {A B : Type 0} where
   -- the words of both, in order
   pub words_bind : (m : Draw A) (f : A → Draw B) (w : ℕ) → words (m >>= f) w ≡ words m w ++ words (f (value m w)) (ending m w)
   words_bind (ret a) f w = refl
-  words_bind (ask k) f w = ap (λ (r : List ℕ). next w ∷ r) (words_bind (k (next w)) f (next w))
+  words_bind (ask k) f w = ap (λ (r : List ℕ). get_word w ∷ r) (words_bind (k (get_word w)) f (get_word w))
 
   -- a last step that draws nothing
   pub words_then : (m : Draw A) (f : A → B) (w : ℕ) → words (m >>= λ a. ret (f a)) w ≡ words m w
   words_then (ret a) f w = refl
-  words_then (ask k) f w = ap (λ (r : List ℕ). next w ∷ r) (words_then (k (next w)) f (next w))
+  words_then (ask k) f w = ap (λ (r : List ℕ). get_word w ∷ r) (words_then (k (get_word w)) f (get_word w))
 
   pub bind_same : (m : Draw A) {f g : A → Draw B} → ((a : A) → f a ≡ g a) → m >>= f ≡ m >>= g
   bind_same m h = ap (λ (f : A → Draw B). m >>= f) (fun_ext h)
@@ -90,7 +90,7 @@ module _ {A : Type 0} where
     where
       go : (m : Draw A) (w : ℕ) → Always P m → P (run m w).value
       go (ret a) w h = h
-      go (ask k) w h = go (k (next w)) (next w) (h (next w))
+      go (ask k) w h = go (k (get_word w)) (get_word w) (h (get_word w))
 
 module _ {A B : Type 0} where
   pub always_bind : (P : A → Type 0) (Q : B → Type 0) (m : Draw A) (f : A → Draw B) → Always P m → ((a : A) → P a → Always Q (f a)) → Always Q (m >>= f)
@@ -106,7 +106,7 @@ module _ {A : Type 0} where
 
   pub draws_length : (n : ℕ) (P : A → Type 0) (m : Draw A) (w : ℕ) → Draws n P m → length (words m w) ≡ n
   draws_length n P (ret a) w h = sym h.0
-  draws_length n P (ask k) w h = ap suc (draws_length h.0 P (k (next w)) (next w) (h.2 (next w))) ∙ sym h.1
+  draws_length n P (ask k) w h = ap suc (draws_length h.0 P (k (get_word w)) (get_word w) (h.2 (get_word w))) ∙ sym h.1
 
   pub draws_always : (n : ℕ) (P : A → Type 0) (m : Draw A) → Draws n P m → Always P m
   draws_always n P (ret a) h = h.1
@@ -143,8 +143,8 @@ module _ {A : Type 0} where
   run_counted : (n : ℕ) (P : A → Type 0) (m : Draw A) (w : ℕ) → Draws n P m → run (counted m) w ≡ record { value = ((run m w).value, n); word = (run m w).word }
   run_counted n P (ret a) w h = ap (λ (j : ℕ). record { value = (a, j); word = w }) (sym h.0)
   run_counted n P (ask k) w h =
-      run_then (counted (k (next w))) _ (next w) (run_counted h.0 P (k (next w)) (next w) (h.2 (next w)))
-      ∙ ap (λ (j : ℕ). record { value = ((run (k (next w)) (next w)).value, j); word = (run (k (next w)) (next w)).word }) (sym h.1)
+      run_then (counted (k (get_word w))) _ (get_word w) (run_counted h.0 P (k (get_word w)) (get_word w) (h.2 (get_word w)))
+      ∙ ap (λ (j : ℕ). record { value = ((run (k (get_word w)) (get_word w)).value, j); word = (run (k (get_word w)) (get_word w)).word }) (sym h.1)
 
   -- what it is known to give, and how many words it draws
   pub counted_then : (n : ℕ) (P : A → Type 0) (m : Draw A) (w : ℕ) {a : A} {v : ℕ} → Draws n P m → run m w ≡ record { value = a; word = v }

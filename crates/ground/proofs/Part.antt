@@ -2,7 +2,7 @@
 use Rattle.std.proofs.Common.{◌≡◌, ℕ, ◌+◌, ◌-◌, ◌*◌, ◌<◌, ◌≤◌, List, ◌++◌, length, take, drop, sym, ap, ◌∙◌, mul-le-mul_right, suc-mul, arith, length-append, length-drop, take-append-drop, length-take, length-take-le, drop-drop, take_at, drop_at}
 use native.Mathlib.Decide.{dec_lt}
 use lib.Seq.{take-append-le, drop-append-le, drop-append-add}
-use Rattle.ground.specs.Part.{part, put, within}
+use Rattle.ground.specs.Part.{part, put, on_part}
 
 module _ {A : Type 0} where
   pub length_part : (a k : ℕ) (xs : List A) → a + k ≤ length xs → length (part a k xs) ≡ k
@@ -50,7 +50,7 @@ module _ {A : Type 0} where
 
   -- What a callee that was lent the part from a to e says of the part, said of the whole: j is the code's e - a.
   pub lent : {R : Type 0} (f : List A → R × List A) (a k j : ℕ) (xs ys : List A) (r : R) → j ≡ k
-      → ◌≡◌ {A = R × List A} (r, ys) (f (take j (drop a xs))) → ◌≡◌ {A = R × List A} (r, take a xs ++ (ys ++ drop j (drop a xs))) (within a k f xs)
+      → ◌≡◌ {A = R × List A} (r, ys) (f (take j (drop a xs))) → ◌≡◌ {A = R × List A} (r, take a xs ++ (ys ++ drop j (drop a xs))) (on_part a k f xs)
   unfolding part put
   lent {R} f a k j xs ys r e g = rw (← e) (ap (λ (q : R × List A). (q.0, take a xs ++ (q.1 ++ drop j (drop a xs)))) g)
 
@@ -60,10 +60,10 @@ gap size a b l = rw suc-mul at (mul-le-mul_right size l)
 
 module _ {A R : Type 0} (f : List A → R × List A) (keeps : (ys : List A) → length (f ys).1 ≡ length ys) where
   pub other_slot : (slot other size : ℕ) (xs : List A) → slot * size + size ≤ length xs → (slot ≡ other → ⊥)
-      → part (other * size) size (within (slot * size) size f xs).1 ≡ part (other * size) size xs
+      → part (other * size) size (on_part (slot * size) size f xs).1 ≡ part (other * size) size xs
   other_slot slot other size xs h apart = go (dec_lt slot other)
     where
-      go : Dec (slot < other) → part (other * size) size (within (slot * size) size f xs).1 ≡ part (other * size) size xs
+      go : Dec (slot < other) → part (other * size) size (on_part (slot * size) size f xs).1 ≡ part (other * size) size xs
       go (yes l) =
           part_put_above (other * size) size (slot * size) size (f (part (slot * size) size xs)).1 xs (gap size slot other l) h
           (keeps (part (slot * size) size xs) ∙ length_part (slot * size) size xs h)

@@ -2,17 +2,17 @@
 -- a list of words fed. Assumes nothing.
 use Rattle.std.specs.Prelude.{ℕ, zero, suc, List, [], ◌∷◌}
 use Rattle.std.proofs.Math.Option.{Option, none, some}
-use Rattle.ground.specs.Random.{next}
+use Rattle.ground.specs.Random.{get_word}
 
 -- w moved n times
 abbrev pub moved : ℕ → ℕ → ℕ
 moved zero w = w
-moved (suc n) w = next (moved n w)
+moved (suc n) w = get_word (moved n w)
 
 -- the n words that n draws from w give
 abbrev pub stream : ℕ → ℕ → List ℕ
 stream zero w = []
-stream (suc n) w = next w ∷ stream n (next w)
+stream (suc n) w = get_word w ∷ stream n (get_word w)
 
 pub data Draw (A : Type 0) : Type 0 where
   ret : A → Draw A
@@ -27,7 +27,7 @@ module _ {A : Type 0} where
   -- run by the generator at w
   abbrev pub run : Draw A → ℕ → Ran A
   run (ret a) w = record { value = a; word = w }
-  run (ask k) w = run (k (next w)) (next w)
+  run (ask k) w = run (k (get_word w)) (get_word w)
 
   abbrev pub value : Draw A → ℕ → A
   value m w = (run m w).value
@@ -38,7 +38,7 @@ module _ {A : Type 0} where
   -- the words that the run draws
   abbrev pub words : Draw A → ℕ → List ℕ
   words (ret a) w = []
-  words (ask k) w = next w ∷ words (k (next w)) (next w)
+  words (ask k) w = get_word w ∷ words (k (get_word w)) (get_word w)
 
   -- run by a list: where it draws it takes the next word fed. It is `none` where a word is lacking, and where one is over at the end.
   abbrev pub fed : Draw A → List ℕ → Option A

@@ -5,17 +5,17 @@ use Rattle.std.specs.Float.Ieee.{of_int}
 use Rattle.ground.specs.F32.{◌⊖◌, ◌⊗◌, ◌⊘◌, c1, c2, two_to32}
 
 -- get_word: a draw moves the generator's word to this one, and gives it
-unfoldable pub next : ℕ → ℕ
-next w = (w * 1664525 + 1013904223) % 2 ^ 32
+unfoldable pub get_word : ℕ → ℕ
+get_word w = (w * 1664525 + 1013904223) % 2 ^ 32
 
 -- `w as f32`: the nearest f32, ties to even
 abbrev pub word_float : ℕ → Float
 word_float w = of_int binary32 (pos w)
 
 -- get_float
-unfoldable pub float_of : ℕ → Float
-float_of w = word_float w ⊘ two_to32
+unfoldable pub get_float : ℕ → Float
+get_float w = word_float w ⊘ two_to32
 
 -- `2.0 * get_float() - 1.0`
 unfoldable pub noise_of : ℕ → Float
-noise_of w = c2 ⊗ float_of w ⊖ c1
+noise_of w = c2 ⊗ get_float w ⊖ c1

@@ -1,7 +1,7 @@
 // Pseudo random number generator. The word goes in and comes out; nothing is kept here.
 ghost use Rattle.std.specs.Prelude.{◌≡◌, ◌-◌, ◌*◌, ◌%◌, ◌^◌, ◌<◌};
 ghost use Rattle.std.specs.Float.Ieee.Nearest.{closest};
-ghost use Rattle.ground.specs.Random.{next, word_float, float_of, noise_of};
+ghost use Rattle.ground.specs.Random.{get_word, word_float, get_float, noise_of};
 
 // u32::wrapping_mul: 01 'The shape of some places' asks for a multiply of our own beside std's `wrapping_add`.
 pub fn wrapping_mul(a: u32, b: u32) -> u32
@@ -12,9 +12,9 @@ pub fn wrapping_mul(a: u32, b: u32) -> u32
 }
 
 // The word that a draw moves the generator's word to, and gives.
-#[tactic(auto, unfolding(crate::specs::Random::next))]
+#[tactic(auto, unfolding(crate::specs::Random::get_word))]
 pub fn get_word(word: u32) -> u32
-    ensures { result ≡ next word }
+    ensures { result ≡ get_word word }
 {
     wrapping_mul(word, 1664525).wrapping_add(1013904223)
 }
@@ -63,9 +63,9 @@ pub fn word_to_f32(word: u32) -> f32
 }
 
 // get_float, of a word that was drawn: from 0 to 1, 1 included.
-#[tactic(auto, unfolding(crate::specs::Random::float_of))]
+#[tactic(auto, unfolding(crate::specs::Random::get_float))]
 pub fn get_float(word: u32) -> f32
-    ensures { result ≡ float_of word }
+    ensures { result ≡ get_float word }
 {
     word_to_f32(word) / 4294967296.0
 }

@@ -14,20 +14,20 @@ pub record Fields (X A : Type 0) : Type 0 where
 
 module _ {X A : Type 0} (row : Fields X A) where
   -- the struct of a list of its length
-  unfoldable pub held : List X → Option A
-  held xs = cond (eqb (length xs) row.count) (Some (row.from xs)) None
+  unfoldable pub from_fields : List X → Option A
+  from_fields xs = cond (eqb (length xs) row.count) (Some (row.from xs)) None
 
   -- a function over the struct in a list: what it gives, and the list after it; where the length is another, `none`, and the list as it was
-  unfoldable pub over : {R : Type 0} → R → (A → A × R) → List X → R × List X
-  over none f xs = let r = f (row.from xs) in cond (eqb (length xs) row.count) (r.1, row.to r.0) (none, xs)
+  unfoldable pub on_fields : {R : Type 0} → R → (A → A × R) → List X → R × List X
+  on_fields none f xs = let r = f (row.from xs) in cond (eqb (length xs) row.count) (r.1, row.to r.0) (none, xs)
 
   -- the same of a function that gives the struct alone
-  abbrev pub moved : (A → A) → List X → List X
-  moved f xs = (over (tt {0}) (λ a. (f a, tt {0})) xs).1
+  abbrev pub changed : (A → A) → List X → List X
+  changed f xs = (on_fields (tt {0}) (λ a. (f a, tt {0})) xs).1
 
   -- a struct put into a list of its length; any other stays
   abbrev pub into : A → List X → List X
-  into a = moved (λ b. a)
+  into a = changed (λ b. a)
 
 -- ---- the structs
 

@@ -1,8 +1,8 @@
 // Filters. `dirty` chooses the approximation.
 ghost use Rattle.std.specs.Prelude.{◌≡◌};
 ghost use Rattle.ground.specs.F32.{c0};
-ghost use Rattle.utils.specs.Filter.{tan_of, dc_init, dc_buffer, svf_new, svf_init, svf_setFQ, svf_of, svf_buffer};
-ghost use Rattle.leaves_abi.specs.Rows.{dc_row, svf_row, into, moved, over};
+ghost use Rattle.utils.specs.Filter.{tan_of, dc_init, dc_process, svf_new, svf_init, svf_set_f_q, svf_process, svf_process_buffer};
+ghost use Rattle.leaves_abi.specs.Rows.{dc_row, svf_row, into, changed, on_fields};
 ghost use Rattle.leaves_abi.specs.Leaves.{approximation_of};
 
 use crate::rows::Row;
@@ -35,7 +35,7 @@ pub extern "C" fn leaves_dc_blocker_init(pole: f32, blocker: &mut [f32])
 #[tactic(auto, using(crate::proofs::Held::over_none))]
 #[unsafe(no_mangle)]
 pub extern "C" fn leaves_dc_blocker_process(blocker: &mut [f32], in_out: &mut [f32])
-    ensures { (in_out.new, blocker.new) ≡ over dc_row in_out.old (λ d. dc_buffer d in_out.old) blocker.old }
+    ensures { (in_out.new, blocker.new) ≡ on_fields dc_row in_out.old (λ d. dc_process d in_out.old) blocker.old }
 {
     let Some(d) = DcBlocker::get(blocker) else {
         return;
@@ -53,7 +53,7 @@ pub extern "C" fn leaves_svf_new(svf: &mut [f32])
 #[tactic(auto, using(crate::proofs::Held::stepped, crate::proofs::Held::moved_none))]
 #[unsafe(no_mangle)]
 pub extern "C" fn leaves_svf_init(svf: &mut [f32])
-    ensures { svf.new ≡ moved svf_row svf_init svf.old }
+    ensures { svf.new ≡ changed svf_row svf_init svf.old }
 {
     let Some(s) = Svf::get(svf) else {
         return;
@@ -64,7 +64,7 @@ pub extern "C" fn leaves_svf_init(svf: &mut [f32])
 #[tactic(auto, using(crate::proofs::Held::stepped, crate::proofs::Held::moved_none))]
 #[unsafe(no_mangle)]
 pub extern "C" fn leaves_svf_set_f_q(svf: &mut [f32], f: f32, resonance: f32, dirty: bool)
-    ensures { svf.new ≡ moved svf_row (λ s. svf_setFQ s f resonance (approximation_of dirty)) svf.old }
+    ensures { svf.new ≡ changed svf_row (λ s. svf_set_f_q s f resonance (approximation_of dirty)) svf.old }
 {
     let Some(s) = Svf::get(svf) else {
         return;
@@ -75,7 +75,7 @@ pub extern "C" fn leaves_svf_set_f_q(svf: &mut [f32], f: f32, resonance: f32, di
 #[tactic(auto, using(crate::proofs::Held::crossed, crate::proofs::Held::over_none))]
 #[unsafe(no_mangle)]
 pub extern "C" fn leaves_svf_process(svf: &mut [f32], in_: f32) -> f32
-    ensures { (result, svf.new) ≡ over svf_row c0 (λ s. svf_of s in_) svf.old }
+    ensures { (result, svf.new) ≡ on_fields svf_row c0 (λ s. svf_process s in_) svf.old }
 {
     let Some(s) = Svf::get(svf) else {
         return 0.0;
@@ -88,7 +88,7 @@ pub extern "C" fn leaves_svf_process(svf: &mut [f32], in_: f32) -> f32
 #[tactic(auto, using(crate::proofs::Held::over_none))]
 #[unsafe(no_mangle)]
 pub extern "C" fn leaves_svf_process_buffer(svf: &mut [f32], in_: &[f32], out: &mut [f32])
-    ensures { (out.new, svf.new) ≡ over svf_row out.old (λ s. svf_buffer s in_.now out.old) svf.old }
+    ensures { (out.new, svf.new) ≡ on_fields svf_row out.old (λ s. svf_process_buffer s in_.now out.old) svf.old }
 {
     let Some(s) = Svf::get(svf) else {
         return;

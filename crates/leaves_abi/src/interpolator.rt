@@ -1,7 +1,7 @@
 // Linear interpolation of a parameter.
 ghost use Rattle.std.specs.Prelude.{◌≡◌};
-ghost use Rattle.utils.specs.ParameterInterpolator.{next_of};
-ghost use Rattle.leaves_abi.specs.Rows.{interpolator_row, moved};
+ghost use Rattle.utils.specs.ParameterInterpolator.{interpolator_next};
+ghost use Rattle.leaves_abi.specs.Rows.{interpolator_row, changed};
 ghost use Rattle.leaves_abi.specs.Leaves.{interpolator_at};
 
 use crate::rows::Row;
@@ -27,7 +27,7 @@ pub extern "C" fn leaves_interpolator_new(
 #[tactic(auto, using(crate::proofs::Held::stepped, crate::proofs::Held::moved_none))]
 #[unsafe(no_mangle)]
 pub extern "C" fn leaves_interpolator_next(interpolator: &mut [f32])
-    ensures { interpolator.new ≡ moved interpolator_row next_of interpolator.old }
+    ensures { interpolator.new ≡ changed interpolator_row interpolator_next interpolator.old }
 {
     let Some(p) = ParameterInterpolator::get(interpolator) else {
         return;

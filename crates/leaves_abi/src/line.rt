@@ -1,14 +1,14 @@
 // A delay line: a lent slice of any length, and the place that is written next. Where the place is not in the line, a call gives 0 and changes nothing.
 ghost use Rattle.std.specs.Prelude.{◌≡◌};
 ghost use Rattle.ground.specs.F32.{c0};
-ghost use Rattle.utils.specs.DelayLine.{cleared, written, read_frac, read_hermite};
-ghost use Rattle.leaves_abi.specs.Rows.{number_row, over};
+ghost use Rattle.utils.specs.DelayLine.{line_reset, line_write, read_with_delay_frac, read_hermite};
+ghost use Rattle.leaves_abi.specs.Rows.{number_row, on_fields};
 ghost use Rattle.leaves_abi.specs.Leaves.{in_line, allpass_at};
 
 #[tactic(auto, unfolding(crate::specs::Leaves::in_line))]
 #[unsafe(no_mangle)]
 pub extern "C" fn leaves_line_write(line: &mut [f32], write_ptr: usize, sample: f32) -> usize
-    ensures { (result, line.new) ≡ in_line line.old write_ptr (0, line.old) (written line.old write_ptr sample) }
+    ensures { (result, line.new) ≡ in_line line.old write_ptr (0, line.old) (line_write line.old write_ptr sample) }
 {
     if line.len() <= write_ptr {
         return 0;
@@ -18,7 +18,7 @@ pub extern "C" fn leaves_line_write(line: &mut [f32], write_ptr: usize, sample: 
 
 #[unsafe(no_mangle)]
 pub extern "C" fn leaves_line_reset(line: &mut [f32]) -> usize
-    ensures { (result, line.new) ≡ cleared line.old }
+    ensures { (result, line.new) ≡ line_reset line.old }
 {
     utils::delay_line::reset(line)
 }
@@ -26,7 +26,7 @@ pub extern "C" fn leaves_line_reset(line: &mut [f32]) -> usize
 #[tactic(auto, unfolding(crate::specs::Leaves::in_line))]
 #[unsafe(no_mangle)]
 pub extern "C" fn leaves_read_with_delay_frac(line: &[f32], write_ptr: usize, delay: f32) -> f32
-    ensures { result ≡ in_line line.now write_ptr c0 (read_frac line.now write_ptr delay) }
+    ensures { result ≡ in_line line.now write_ptr c0 (read_with_delay_frac line.now write_ptr delay) }
 {
     if line.len() <= write_ptr {
         return 0.0;
@@ -55,7 +55,7 @@ pub extern "C" fn leaves_allpass(
     delay: usize,
     coefficient: f32,
 ) -> f32
-    ensures { ((result, line.new), write_ptr.new) ≡ over number_row (c0, line.old) (allpass_at line.old sample delay coefficient) write_ptr.old }
+    ensures { ((result, line.new), write_ptr.new) ≡ on_fields number_row (c0, line.old) (allpass_at line.old sample delay coefficient) write_ptr.old }
 {
     if write_ptr.len() != 1 {
         return 0.0;

@@ -1,6 +1,6 @@
 // A struct that crosses as a lent slice of its fields, in the order of its declaration.
 ghost use Rattle.std.specs.Prelude.{◌≡◌, Float};
-ghost use Rattle.leaves_abi.specs.Rows.{Fields, svf_row, dc_row, interpolator_row, oscillator_row, held, into};
+ghost use Rattle.leaves_abi.specs.Rows.{Fields, svf_row, dc_row, interpolator_row, oscillator_row, from_fields, into};
 
 use utils::cosine_oscillator::CosineOscillator;
 use utils::filter::{DcBlocker, Svf};
@@ -11,7 +11,7 @@ pub trait Row: Copy {
 
     // The struct of a slice of its length.
     fn get(xs: &[f32]) -> Option<Self>
-        ensures { result ≡ held row xs.now };
+        ensures { result ≡ from_fields row xs.now };
 
     // Put into a slice of its length; any other stays.
     fn put(self, xs: &mut [f32])
@@ -21,7 +21,7 @@ pub trait Row: Copy {
 impl Row for Svf {
     ghost row = { svf_row };
 
-    #[tactic(auto, unfolding(crate::specs::Rows::held, crate::specs::Rows::svf_row))]
+    #[tactic(auto, unfolding(crate::specs::Rows::from_fields, crate::specs::Rows::svf_row))]
     fn get(xs: &[f32]) -> Option<Svf> {
         match *xs {
             [g, r, h, state_1, state_2] => Some(Svf {
@@ -35,7 +35,7 @@ impl Row for Svf {
         }
     }
 
-    #[tactic(auto, unfolding(crate::specs::Rows::over, crate::specs::Rows::svf_row))]
+    #[tactic(auto, unfolding(crate::specs::Rows::on_fields, crate::specs::Rows::svf_row))]
     fn put(self, xs: &mut [f32]) {
         if xs.len() == 5 {
             xs.copy_from_slice(&[self.g, self.r, self.h, self.state_1, self.state_2]);
@@ -46,7 +46,7 @@ impl Row for Svf {
 impl Row for DcBlocker {
     ghost row = { dc_row };
 
-    #[tactic(auto, unfolding(crate::specs::Rows::held, crate::specs::Rows::dc_row))]
+    #[tactic(auto, unfolding(crate::specs::Rows::from_fields, crate::specs::Rows::dc_row))]
     fn get(xs: &[f32]) -> Option<DcBlocker> {
         match *xs {
             [pole, x, y] => Some(DcBlocker { pole, x, y }),
@@ -54,7 +54,7 @@ impl Row for DcBlocker {
         }
     }
 
-    #[tactic(auto, unfolding(crate::specs::Rows::over, crate::specs::Rows::dc_row))]
+    #[tactic(auto, unfolding(crate::specs::Rows::on_fields, crate::specs::Rows::dc_row))]
     fn put(self, xs: &mut [f32]) {
         if xs.len() == 3 {
             xs.copy_from_slice(&[self.pole, self.x, self.y]);
@@ -65,7 +65,7 @@ impl Row for DcBlocker {
 impl Row for ParameterInterpolator {
     ghost row = { interpolator_row };
 
-    #[tactic(auto, unfolding(crate::specs::Rows::held, crate::specs::Rows::interpolator_row))]
+    #[tactic(auto, unfolding(crate::specs::Rows::from_fields, crate::specs::Rows::interpolator_row))]
     fn get(xs: &[f32]) -> Option<ParameterInterpolator> {
         match *xs {
             [value, increment] => Some(ParameterInterpolator { value, increment }),
@@ -73,7 +73,7 @@ impl Row for ParameterInterpolator {
         }
     }
 
-    #[tactic(auto, unfolding(crate::specs::Rows::over, crate::specs::Rows::interpolator_row))]
+    #[tactic(auto, unfolding(crate::specs::Rows::on_fields, crate::specs::Rows::interpolator_row))]
     fn put(self, xs: &mut [f32]) {
         if xs.len() == 2 {
             xs.copy_from_slice(&[self.value, self.increment]);
@@ -84,7 +84,7 @@ impl Row for ParameterInterpolator {
 impl Row for CosineOscillator {
     ghost row = { oscillator_row };
 
-    #[tactic(auto, unfolding(crate::specs::Rows::held, crate::specs::Rows::oscillator_row))]
+    #[tactic(auto, unfolding(crate::specs::Rows::from_fields, crate::specs::Rows::oscillator_row))]
     fn get(xs: &[f32]) -> Option<CosineOscillator> {
         match *xs {
             [y1, y0, iir_coefficient, initial_amplitude] => Some(CosineOscillator {
@@ -97,7 +97,7 @@ impl Row for CosineOscillator {
         }
     }
 
-    #[tactic(auto, unfolding(crate::specs::Rows::over, crate::specs::Rows::oscillator_row))]
+    #[tactic(auto, unfolding(crate::specs::Rows::on_fields, crate::specs::Rows::oscillator_row))]
     fn put(self, xs: &mut [f32]) {
         if xs.len() == 4 {
             xs.copy_from_slice(&[

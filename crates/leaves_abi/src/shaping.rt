@@ -1,12 +1,12 @@
 // What the devices share, the ratio of semitones, and the tables.
 ghost use Rattle.std.specs.Prelude.{◌≡◌};
 ghost use Rattle.utils.specs.Units.{semitones_to_ratio};
-ghost use Rattle.utils.specs.Utils.{interpolate_of, one_pole, crossfade_of};
+ghost use Rattle.utils.specs.Utils.{interpolate, one_pole, crossfade};
 ghost use Rattle.leaves_abi.specs.Leaves.{table_of};
 
 #[unsafe(no_mangle)]
 pub extern "C" fn leaves_interpolate(index: f32) -> f32
-    ensures { result ≡ interpolate_of index }
+    ensures { result ≡ interpolate index }
 {
     utils::interpolate(index)
 }
@@ -20,7 +20,7 @@ pub extern "C" fn leaves_one_pole(out: f32, in_: f32, coefficient: f32) -> f32
 
 #[unsafe(no_mangle)]
 pub extern "C" fn leaves_crossfade(a: f32, b: f32, fade: f32) -> f32
-    ensures { result ≡ crossfade_of a b fade }
+    ensures { result ≡ crossfade a b fade }
 {
     utils::crossfade(a, b, fade)
 }

@@ -11,7 +11,7 @@ use Rattle.resources.specs.Pitch.{pitch_ratio_high, pitch_ratio_low}
 use Rattle.ground.specs.F32.{◌⊗◌, c0, c0·499, c1, c2, c4, c24, c36, c60, c64, c72, c79·7}
 use Rattle.ground.specs.Floats.{whole_part, min_f, clamp_f}
 use Rattle.utils.specs.Units.{high_index, low_index, semitones_to_ratio}
-use Rattle.utils.specs.Utils.{interpolate_of}
+use Rattle.utils.specs.Utils.{interpolate}
 use Rattle.bounds.proofs.Order.{and_true, finite_not_lt, finite_not_nan, lt_of_le}
 use Rattle.bounds.proofs.Bounds.{int, minus, part, Between, encloses, inside, is_in, const_in, in_test, mul_in, min_in, clamp_in, clamp_most, cond_in, finite_in}
 use Rattle.bounds.proofs.Indices.{float_under_one, lt_one, is_one, whole_below, high_in, low_in}
@@ -80,8 +80,8 @@ module _ (structure : Float) (f : T (fits binary32 structure)) (p : Knob structu
       let s = mul_in r (const_in c64 tt) c0 (part 16777215 17) tt in
       whole_below 63 (clamp_f structure c0 c1 ⊗ c64) (lt_of_le (clamp_f structure c0 c1 ⊗ c64) (part 16777215 17) (int 64) s.most tt)
 
-  pub stiffness_one : T (not (lt structure c1)) → interpolate_of structure ≡ c2
-  unfolding interpolate_of clamp_f whole_part mul le lt of_bits to_unsigned
+  pub stiffness_one : T (not (lt structure c1)) → interpolate structure ≡ c2
+  unfolding interpolate clamp_f whole_part mul le lt of_bits to_unsigned
   stiffness_one h = rw (is_one structure f (finite_not_lt structure c1 (finite_in p) tt h) p.most)
 
 -- ---- all of it, of knobs k

@@ -4,7 +4,7 @@ use Rattle.std.specs.Float.Ieee.{lt}
 use Rattle.ground.specs.F32.{◌⊖◌, ◌⊗◌, c0, c0·5, c1, c2, c24, c36, c60, c64, c79·7}
 use Rattle.ground.specs.Floats.{whole_part, clamp_f}
 use Rattle.utils.specs.Units.{high_index, low_index}
-use Rattle.utils.specs.Utils.{interpolate_of}
+use Rattle.utils.specs.Utils.{interpolate}
 use Rattle.noise.specs.declared.excitation.Knobs.{Knobs}
 use Rattle.noise.specs.Excitation.{raised}
 use Rattle.modal_voice.specs.ModalVoice.{cutoff_for}
@@ -38,4 +38,4 @@ pub record InTables (k : Knobs) : Type 0 where
   -- below structure 1 the neighbours i and i + 1 are entries of the stiffness table, whose last is 64
   pub stiffness : T (lt k.structure c1) → stiffness_index k.structure + 1 ≤ 64
   -- from structure 1 on, which is 1 alone, the stiffness is 2.0: the departure
-  pub departure : T (not (lt k.structure c1)) → interpolate_of k.structure ≡ c2
+  pub departure : T (not (lt k.structure c1)) → interpolate k.structure ≡ c2

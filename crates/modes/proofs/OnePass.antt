@@ -6,7 +6,7 @@ use lib.ListN.{get_or, length, length-map, replicate}
 use lib.Ieee.{Float, nan}
 use Rattle.ground.specs.F32.{◌⊗◌, c0, c79·7}
 use Rattle.ground.specs.Frames.{scan, over, tab}
-use Rattle.utils.specs.Utils.{interpolate_of}
+use Rattle.utils.specs.Utils.{interpolate}
 use Rattle.utils.specs.Units.{semitones_to_ratio}
 use Rattle.ground.proofs.Frames.{scan_alike}
 use Rattle.ground.proofs.Exchange.{block, frame, exchange}
@@ -117,7 +117,7 @@ pub mapped_length : {X Y : Type 0} (f : X → Y) (xs : List X) (n : ℕ) → len
 mapped_length f xs n e = sym (length-map xs f) ∙ e
 
 pub made : (amps : List Float) (f0 structure brightness damping : Float) {stiffness v q-sqrt loss : Float} {p : Partial} {t : Tuned} {k : Modes}
-    → stiffness ≡ interpolate_of structure → v ≡ nth_harmonic_compensation 3 stiffness → q-sqrt ≡ semitones_to_ratio (damping ⊗ c79·7)
+    → stiffness ≡ interpolate structure → v ≡ nth_harmonic_compensation 3 stiffness → q-sqrt ≡ semitones_to_ratio (damping ⊗ c79·7)
     → p ≡ first_of (f0 ⊗ v) stiffness q-sqrt → loss ≡ q_loss_of structure brightness damping → t ≡ tuned amps (f0 ⊗ v) loss p → k ≡ modes_of t
     → k ≡ modes_for amps f0 structure brightness damping
 unfolding modes_for
@@ -139,8 +139,8 @@ pub processed : (r : Resonator) (f0 structure brightness damping : Float) (xs ys
     (resonator_process r f0 structure brightness damping xs ys)
 unfolding modes_for resonator_process
 processed r f0 structure brightness damping xs ys h ek e =
-    let f = f0 ⊗ nth_harmonic_compensation 3 (interpolate_of structure) in
-    let first = first_of f (interpolate_of structure) (semitones_to_ratio (damping ⊗ c79·7)) in
+    let f = f0 ⊗ nth_harmonic_compensation 3 (interpolate structure) in
+    let first = first_of f (interpolate structure) (semitones_to_ratio (damping ⊗ c79·7)) in
     ap (λ (u : List Batch × List Float). (record { mode_amplitude = r.mode_amplitude; mode_filters = u.0 }, u.1))
     (e ∙ ap (λ (k : Modes). one_pass k r.mode_filters xs ys) ek
     ∙ one_pass_lem f (q_loss_of structure brightness damping) first r.mode_amplitude r.mode_filters xs ys h)

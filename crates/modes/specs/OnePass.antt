@@ -3,7 +3,7 @@ use Rattle.std.specs.Prelude.{List, ℕ, ◌+◌, ◌*◌, ◌/◌, ◌%◌, get
 use Rattle.std.specs.Float.{nan}
 use Rattle.ground.specs.F32.{◌⊕◌, ◌⊗◌, c0, c79·7}
 use Rattle.ground.specs.Frames.{scan, over, up_to, after, tab}
-use Rattle.utils.specs.Utils.{interpolate_of}
+use Rattle.utils.specs.Utils.{interpolate}
 use Rattle.utils.specs.Units.{semitones_to_ratio}
 use Rattle.modes.specs.declared.resonator.ResonatorSvf.{ResonatorSvf}
 use Rattle.modes.specs.declared.resonator.Batch.{Batch}
@@ -43,7 +43,7 @@ modes_of u =
 -- the coefficients for a block
 unfoldable pub modes_for : List Float → Float → Float → Float → Float → Modes
 modes_for amps f0 structure brightness damping =
-    let stiffness = interpolate_of structure in
+    let stiffness = interpolate structure in
     let f = f0 ⊗ nth_harmonic_compensation 3 stiffness in
     let first = first_of f stiffness (semitones_to_ratio (damping ⊗ c79·7)) in
     modes_of (tuned amps f (q_loss_of structure brightness damping) first)

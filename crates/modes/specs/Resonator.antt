@@ -5,7 +5,7 @@ use Rattle.std.specs.Float.Ieee.{lt, le}
 use Rattle.ground.specs.F32.{◌⊕◌, ◌⊖◌, ◌⊗◌, ◌⊘◌, c0, c0·15, c0·3, c0·499, c0·85, c0·93, c0·98, c1, c2, c79·7, c500}
 use Rattle.ground.specs.Frames.{scan, after, tab}
 use Rattle.utils.specs.Filter.{tan_fast}
-use Rattle.utils.specs.Utils.{interpolate_of}
+use Rattle.utils.specs.Utils.{interpolate}
 use Rattle.utils.specs.Units.{semitones_to_ratio}
 use Rattle.utils.specs.Amplitudes.{amplitudes_of}
 use Rattle.modes.specs.declared.resonator.ResonatorSvf.{ResonatorSvf}
@@ -149,7 +149,7 @@ batches f0 loss p amps fs xs ys = let u = scan (batch_step f0 loss xs) (p, ys) (
 
 unfoldable pub resonator_process : Resonator → Float → Float → Float → Float → List Float → List Float → Resonator × List Float
 resonator_process r f0 structure brightness damping xs ys =
-    let stiffness = interpolate_of structure in
+    let stiffness = interpolate structure in
     let f = f0 ⊗ nth_harmonic_compensation 3 stiffness in
     let first = first_of f stiffness (semitones_to_ratio (damping ⊗ c79·7)) in
     let u = batches f (q_loss_of structure brightness damping) first r.mode_amplitude r.mode_filters xs ys in

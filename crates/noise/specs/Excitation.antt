@@ -3,7 +3,7 @@ use Rattle.std.specs.Prelude.{◌≡◌, List, length, replicate, Float}
 use Rattle.ground.specs.F32.{◌⊕◌, ◌⊖◌, ◌⊗◌, c0, c0·00005, c0·25, c0·99995, c1}
 use Rattle.ground.specs.Draw.{Draw, ret, ◌>>=◌}
 use Rattle.ground.specs.Frames.{frames, scan}
-use Rattle.noise.specs.Dust.{dust_of}
+use Rattle.noise.specs.Dust.{dust}
 
 -- `x += 0.25 * accent * (1.0 - x)`, for brightness and for damping
 unfoldable pub raised : Float → Float → Float
@@ -22,7 +22,7 @@ filled d xs ys = frames (fill_step d) tt xs ys >>= λ q. ret q.1
 
 -- a sample of dust in every frame, at a gain
 abbrev pub dust_sample : Float → Float → Float → Draw Float
-dust_sample f gain accent = dust_of f >>= λ u. ret (u ⊗ gain ⊗ accent)
+dust_sample f gain accent = dust f >>= λ u. ret (u ⊗ gain ⊗ accent)
 
 unfoldable pub dusted : Float → Float → Float → List Float → Draw (List Float)
 dusted f gain accent temp = filled (dust_sample f gain accent) temp temp

@@ -18,7 +18,7 @@ use Rattle.modal_voice.specs.declared.modal_voice.ModalVoice.{ModalVoice}
 use Rattle.slots.specs.declared.slots.Slot.{Slot}
 use Rattle.slot_bytes.specs.Layout.{ModalF32, flag_of, encode_slot, float_words, svf_words, dc_words, string_words, voice_words, mode_words, batch_words, modal_words, slot_words}
 use Rattle.ground.specs.Each.{Each}
-use Rattle.slot_bytes.specs.Words.{word_of, words, bytes, put_words, each}
+use Rattle.slot_bytes.specs.Words.{word_of, words_in, bytes, put_words, each}
 
 -- ---- the k-th word
 
@@ -26,8 +26,8 @@ past : (a b c d : ℕ) (bs : List ℕ) (n j : ℕ) → n ≡ suc (suc (suc (suc 
 past a b c d bs n j e = ap (λ (m : ℕ). get_or (a ∷ b ∷ c ∷ d ∷ bs) m 0) e
 
 pub word_at : (k : ℕ) (bs : List ℕ) → 4 * k + 4 ≤ length bs
-    → word_of (get_or bs (4 * k) 0) (get_or bs (4 * k + 1) 0) (get_or bs (4 * k + 2) 0) (get_or bs (4 * k + 3) 0) ≡ get_or (words bs) k 0
-unfolding words
+    → word_of (get_or bs (4 * k) 0) (get_or bs (4 * k + 1) 0) (get_or bs (4 * k + 2) 0) (get_or bs (4 * k + 3) 0) ≡ get_or (words_in bs) k 0
+unfolding words_in
 word_at k [] h = absurd (omega arith)
 word_at k (a ∷ []) h = absurd (omega arith)
 word_at k (a ∷ b ∷ []) h = absurd (omega arith)
@@ -185,8 +185,8 @@ module _ {A : Type 0} {f : A → List ℕ} (k : ℕ) {xs : List A} {bs₀ : List
   written_end {i} {bs} w l = w.is ∙ ap (λ (q : List A). put_words k (each f q) bs₀) (take_all i xs l)
 
 -- of n things with so many words each there is room for the i-th
-pub room : (words i n : ℕ) → i < n → words * i + words ≤ words * n
-room words i n h = let e = mul-suc words i in let l : words * suc i ≤ words * n = mul-le-mul_left words (omega arith) in omega arith
+pub room : (words_in i n : ℕ) → i < n → words_in * i + words_in ≤ words_in * n
+room words_in i n h = let e = mul-suc words_in i in let l : words_in * suc i ≤ words_in * n = mul-le-mul_left words_in (omega arith) in omega arith
 
 -- ---- what holds of each
 

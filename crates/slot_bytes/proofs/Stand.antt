@@ -16,7 +16,7 @@ use Rattle.ground.specs.Frames.{tab}
 use Rattle.ground.specs.Part.{put}
 use Rattle.ground.proofs.Nans.{is_nan_lem}
 use Rattle.ground.proofs.Tab.{length_tab}
-use Rattle.slot_bytes.specs.Words.{word_of, words, bytes, put_words, each}
+use Rattle.slot_bytes.specs.Words.{word_of, words_in, bytes, put_words, each}
 use Rattle.slots.specs.declared.slots.Slot.{Slot}
 use Rattle.ground.proofs.Bools as bools
 use Rattle.ground.specs.Each.{Each}
@@ -87,11 +87,11 @@ tested w = other (w % 2147483648) 2139095040 ∙ ap not (sym (nan_bits_above bin
         by true e = ap not (sym (le-ltb b a (leb-true a b e)))
         by false e = ap not (sym (lt-ltb b a (leb-false a b e)))
 
-pub float_stands : (k w : ℕ) (bs : List ℕ) → w < 2 ^ 32 → w ≡ get_or (words bs) k 0 → put_words k (w ∷ []) bs ≡ bs → not (is_nan (float_in (words bs) k)) ≡ true
-    → put_words k (float_words (float_in (words bs) k)) bs ≡ bs
+pub float_stands : (k w : ℕ) (bs : List ℕ) → w < 2 ^ 32 → w ≡ get_or (words_in bs) k 0 → put_words k (w ∷ []) bs ≡ bs → not (is_nan (float_in (words_in bs) k)) ≡ true
+    → put_words k (float_words (float_in (words_in bs) k)) bs ≡ bs
 unfolding float_words
 float_stands k w bs h e s n =
-    let f : nan_bits binary32 w ≡ false = nan_bits_is binary32 w ∙ ap (λ (v : ℕ). is_nan (of_bits binary32 v)) e ∙ not-true (is_nan (float_in (words bs) k)) n in
+    let f : nan_bits binary32 w ≡ false = nan_bits_is binary32 w ∙ ap (λ (v : ℕ). is_nan (of_bits binary32 v)) e ∙ not-true (is_nan (float_in (words_in bs) k)) n in
     ap (λ (v : ℕ). put_words k (bits (of_bits binary32 v) ∷ []) bs) (sym e) ∙ ap (λ (v : ℕ). put_words k (v ∷ []) bs) (by_test w h false f) ∙ s
 
 -- ---- n floats from the k-th on
@@ -109,8 +109,8 @@ none_more (y ∷ xs) x = ap (λ (b : Bool). not (is_nan y) && b) (none_more xs x
 
 -- the first i of them are looked at
 pub record Standing (bs : List ℕ) (k n i : ℕ) (stand : Bool) : Type 0 where
-  pub is : stand ≡ has_no_nan (take i (floats_in (words bs) k n))
-  pub written : stand ≡ true → Written float_words k (floats_in (words bs) k n) bs i bs
+  pub is : stand ≡ has_no_nan (take i (floats_in (words_in bs) k n))
+  pub written : stand ≡ true → Written float_words k (floats_in (words_in bs) k n) bs i bs
 
 one : (x : Float) → length (float_words x) ≡ 1
 unfolding float_words
@@ -121,15 +121,15 @@ module _ {bs : List ℕ} {k n : ℕ} where
   unfolding has_no_nan
   standing_begin = record { is = refl; written = λ e. written_begin k }
 
-  pub standing_turn : {i : ℕ} {stand r : Bool} → Standing bs k n i stand → i < n → 4 * (k + n) ≤ length bs → r ≡ not (is_nan (float_in (words bs) (k + i)))
-      → (r ≡ true → put_words (k + i) (float_words (float_in (words bs) (k + i))) bs ≡ bs) → Standing bs k n (i + 1) (stand && r)
+  pub standing_turn : {i : ℕ} {stand r : Bool} → Standing bs k n i stand → i < n → 4 * (k + n) ≤ length bs → r ≡ not (is_nan (float_in (words_in bs) (k + i)))
+      → (r ≡ true → put_words (k + i) (float_words (float_in (words_in bs) (k + i))) bs ≡ bs) → Standing bs k n (i + 1) (stand && r)
   standing_turn {i} {stand} {r} s h l e f =
-      let xs = floats_in (words bs) k n in
-      let m = length_tab n (λ j. float_in (words bs) (k + j)) in
-      let x : get_or xs i nan ≡ float_in (words bs) (k + i) = tab_at n i (λ j. float_in (words bs) (k + j)) nan h in
+      let xs = floats_in (words_in bs) k n in
+      let m = length_tab n (λ j. float_in (words_in bs) (k + j)) in
+      let x : get_or xs i nan ≡ float_in (words_in bs) (k + i) = tab_at n i (λ j. float_in (words_in bs) (k + j)) nan h in
       record {
         is = (λ j. s.is j && e j)
-            ∙ sym (none_more (take i xs) (float_in (words bs) (k + i)))
+            ∙ sym (none_more (take i xs) (float_in (words_in bs) (k + i)))
             ∙ ap (λ (y : Float). has_no_nan (take i xs ++ (y ∷ []))) (sym x)
             ∙ ap has_no_nan (sym (ap (λ (j : ℕ). take j xs) (add-one i) ∙ take-suc xs i nan (omega arith)));
         written = λ t.
@@ -138,10 +138,10 @@ module _ {bs : List ℕ} {k n : ℕ} where
       }
 
   pub standing_end : {i : ℕ} {stand : Bool} → Standing bs k n i stand → n ≤ i
-      → (stand ≡ has_no_nan (floats_in (words bs) k n)) × (stand ≡ true → put_words k (each float_words (floats_in (words bs) k n)) bs ≡ bs)
+      → (stand ≡ has_no_nan (floats_in (words_in bs) k n)) × (stand ≡ true → put_words k (each float_words (floats_in (words_in bs) k n)) bs ≡ bs)
   standing_end {i} {stand} s h =
-      let m = length_tab n (λ j. float_in (words bs) (k + j)) in
-      (s.is ∙ ap has_no_nan (take_all i (floats_in (words bs) k n) (omega arith)), λ e. sym (written_end k (s.written e) (omega arith)))
+      let m = length_tab n (λ j. float_in (words_in bs) (k + j)) in
+      (s.is ∙ ap has_no_nan (take_all i (floats_in (words_in bs) k n) (omega arith)), λ e. sym (written_end k (s.written e) (omega arith)))
 
 -- ---- a modal voice at rest
 
@@ -171,12 +171,12 @@ pub modal_row : (ws : List ℕ) (h : Bool) → each float_words (floats_in ws 24
 unfolding each float_words tab modal_words modal_in mode_words mode_in batch_words batch_in
 modal_row ws h = refl
 
-pub modal_stands : (bs : List ℕ) → put_words 24 (each float_words (floats_in (words bs) 24 74)) bs ≡ bs
+pub modal_stands : (bs : List ℕ) → put_words 24 (each float_words (floats_in (words_in bs) 24 74)) bs ≡ bs
     → (bs ≡ put_words 24 (modal_words (decode_slot bs).modal) bs) × ModalF32 (decode_slot bs).modal
 unfolding decode_slot slot_in
 modal_stands bs e =
     let h = eqb (get_or bs 392 0) 1 in
-    (sym e ∙ ap (λ (ws : List ℕ). put_words 24 ws bs) (modal_row (words bs) h), modal_fits (words bs) h)
+    (sym e ∙ ap (λ (ws : List ℕ). put_words 24 ws bs) (modal_row (words_in bs) h), modal_fits (words_in bs) h)
 
 -- ---- a string's voice, written into its slot
 

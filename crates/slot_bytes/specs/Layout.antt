@@ -15,7 +15,7 @@ use Rattle.modal_voice.specs.declared.modal_voice.ModalVoice.{ModalVoice}
 use Rattle.slots.specs.declared.slots.Slot.{Slot}
 use Rattle.slots.specs.declared.slots.Bank.{Bank}
 use Rattle.ground.specs.Each.{Each}
-use Rattle.slot_bytes.specs.Words.{words, bytes, each}
+use Rattle.slot_bytes.specs.Words.{words_in, bytes, each}
 
 -- ---- read: a thing whose words stand from the k-th on
 
@@ -75,7 +75,7 @@ slot_in ws held = record { kind = get_or ws 0 0; string = voice_in ws; modal = m
 
 -- the flag is the byte behind the words
 unfoldable pub decode_slot : List ℕ → Slot
-decode_slot bs = slot_in (words bs) (eqb (get_or bs 392 0) 1)
+decode_slot bs = slot_in (words_in bs) (eqb (get_or bs 392 0) 1)
 
 -- ---- what is told of a thing whose floats are f32s and whose arrays have their lengths
 

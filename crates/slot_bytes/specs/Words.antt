@@ -7,12 +7,12 @@ abbrev pub word_of : ℕ → ℕ → ℕ → ℕ → ℕ
 word_of a b c d = a + b * 256 + c * 65536 + d * 16777216
 
 -- the words of bytes; fewer than four at the end are none
-unfoldable pub words : List ℕ → List ℕ
-words [] = []
-words (a ∷ []) = []
-words (a ∷ b ∷ []) = []
-words (a ∷ b ∷ c ∷ []) = []
-words (a ∷ b ∷ c ∷ d ∷ bs) = word_of a b c d ∷ words bs
+unfoldable pub words_in : List ℕ → List ℕ
+words_in [] = []
+words_in (a ∷ []) = []
+words_in (a ∷ b ∷ []) = []
+words_in (a ∷ b ∷ c ∷ []) = []
+words_in (a ∷ b ∷ c ∷ d ∷ bs) = word_of a b c d ∷ words_in bs
 
 -- the bytes of words; of a number past 32 bits, its lowest four
 unfoldable pub bytes : List ℕ → List ℕ

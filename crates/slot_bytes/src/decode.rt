@@ -2,7 +2,7 @@
 ghost use Rattle.std.specs.Prelude.{◌≡◌, ◌/◌, ◌+◌, ◌*◌, ◌≤◌, ◌<◌, eqb, length, get_or};
 ghost use Rattle.slots.specs.Slots.{slot_at};
 ghost use Rattle.slot_bytes.specs.Layout.{string_in, voice_in, modal_in, decode_slot, parts, decode_bank};
-ghost use Rattle.slot_bytes.specs.Words.{words};
+ghost use Rattle.slot_bytes.specs.Words.{words_in};
 
 use crate::record::{Record, read_all};
 use crate::words::word_at;
@@ -15,7 +15,7 @@ use waveguide::string::String;
 
 #[tactic(auto, unfolding(crate::specs::Layout::string_in))]
 fn string_at(b: &[u8; 393]) -> String
-    ensures { result ≡ string_in (words b.now) }
+    ensures { result ≡ string_in (words_in b.now) }
 {
     String {
         string: word_at(b, 6) as usize,
@@ -34,7 +34,7 @@ fn string_at(b: &[u8; 393]) -> String
 
 #[tactic(auto, unfolding(crate::specs::Layout::voice_in))]
 fn voice_at(b: &[u8; 393]) -> StringVoice
-    ensures { result ≡ voice_in (words b.now) }
+    ensures { result ≡ voice_in (words_in b.now) }
 {
     StringVoice {
         excitation_filter: Svf::read(b, 1),
@@ -46,7 +46,7 @@ fn voice_at(b: &[u8; 393]) -> StringVoice
 #[tactic(auto, unfolding(crate::specs::Layout::modal_in))]
 pub fn modal_at(b: &[u8]) -> ModalVoice
     requires { length b.now ≡ 393 }
-    ensures { result ≡ modal_in (words b.now) (eqb (get_or b.now 392 0) 1) }
+    ensures { result ≡ modal_in (words_in b.now) (eqb (get_or b.now 392 0) 1) }
 {
     ModalVoice {
         excitation_filter: ResonatorSvf::read(b, 24),

@@ -1,7 +1,7 @@
 // A thing that stands in bytes as words, from the k-th on, and many of one kind in a row.
 ghost use Rattle.std.specs.Prelude.{◌≡◌, refl, ℕ, List, ◌++◌, ◌+◌, ◌*◌, ◌≤◌, ◌<◌, length};
 ghost use Rattle.ground.specs.Frames.{tab};
-ghost use Rattle.slot_bytes.specs.Words.{words, put_words, each};
+ghost use Rattle.slot_bytes.specs.Words.{words_in, put_words, each};
 ghost use Rattle.slot_bytes.specs.Layout.{F32, SvfF32, DcF32, ModeF32, BatchF32, All, float_in, svf_in, dc_in, mode_in, batch_in, float_again, float_words, svf_words, dc_words, mode_words, batch_words};
 
 use crate::words::{put_word, word_at};
@@ -24,7 +24,7 @@ pub trait Record: Copy {
 
     fn read(b: &[u8], k: usize) -> Self
         requires { 4 * (k + WORDS) ≤ length b.now }
-        ensures { result ≡ from_words (words b.now) k };
+        ensures { result ≡ from_words (words_in b.now) k };
 
     fn write(self, b: &mut [u8], k: usize)
         requires { 4 * (k + WORDS) ≤ length b.old }
@@ -211,7 +211,7 @@ impl Record for Batch {
 pub fn read_all<T: Record, const N: usize>(b: &[u8], k: usize) -> [T; N]
     requires some { 0 < N }
     requires room { 4 * (k + T.WORDS * N) ≤ length b.now }
-    ensures { result ≡ tab N (λ i. T.from_words (words b.now) (k + T.WORDS * i)) }
+    ensures { result ≡ tab N (λ i. T.from_words (words_in b.now) (k + T.WORDS * i)) }
 {
     let mut a = [T::read(b, k); N];
     // by index: an element stands T::WORDS on for each before it

@@ -1,7 +1,7 @@
 -- A slot: empty, and as it is opened. Assumes nothing.
 use Rattle.std.specs.Prelude.{◌≡◌, List, ℕ, zero, suc, get_or, set, replicate, Float, Result, Ok, Err}
 use Rattle.ground.specs.F32.{c0}
-use Rattle.utils.specs.DelayLine.{cleared}
+use Rattle.utils.specs.DelayLine.{line_reset}
 use Rattle.string_voice.specs.declared.string_voice.StringVoice.{StringVoice}
 use Rattle.string_voice.specs.StringVoice as string
 use Rattle.modal_voice.specs.ModalVoice as modal
@@ -33,8 +33,8 @@ unfoldable pub empty_slot : Slot
 empty_slot = record { kind = 0; string = no_string; modal = modal.voice_new }
 
 -- a fresh bank
-unfoldable pub fresh : Bank
-fresh = record { slots = replicate 8 empty_slot }
+unfoldable pub fresh_bank : Bank
+fresh_bank = record { slots = replicate 8 empty_slot }
 
 abbrev pub slot_at : Bank → ℕ → Slot
 slot_at b s = get_or b.slots s empty_slot
@@ -44,8 +44,8 @@ with_slot b s x = record { slots = set b.slots s x }
 
 -- opening: `new` then `init` of the kind's voice, with the slot's lines, cleared for either kind; nothing stays of what the slot held
 abbrev pub opened : ℕ → Float → List Float → Slot × List Float
-opened zero rate lines = (empty_slot, (cleared lines).1)
+opened zero rate lines = (empty_slot, (line_reset lines).1)
 opened (suc zero) rate lines =
     let v = string.voice_init string.voice_new rate lines in
     (record { kind = 1; string = v.0; modal = modal.voice_new }, v.1)
-opened (suc (suc k)) rate lines = (record { kind = 2; string = no_string; modal = modal.voice_init modal.voice_new }, (cleared lines).1)
+opened (suc (suc k)) rate lines = (record { kind = 2; string = no_string; modal = modal.voice_init modal.voice_new }, (line_reset lines).1)

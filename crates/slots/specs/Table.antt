@@ -30,8 +30,8 @@ first [] = Ok tt
 first (c ∷ cs) = cond c.applies (Err c.reason) (first cs)
 
 -- ends are within, and a NaN is in no range
-unfoldable pub within : Float → Float → Float → Bool
-within lo hi x = le lo x && le x hi
+unfoldable pub in_range : Float → Float → Float → Bool
+in_range lo hi x = le lo x && le x hi
 
 -- 2^-20, 8,000 and 192,000
 abbrev pub lowest : Float
@@ -50,18 +50,18 @@ alike b = eqb (length b.temp2) (length b.temp) && eqb (length b.out) (length b.t
 -- the checks of the knobs
 abbrev pub knob_checks : Knobs → List Check
 knob_checks k =
-    R.OutOfRange K.F0 ⇐ not (within lowest c0·5 k.f0)
-    ∷ R.OutOfRange K.Accent ⇐ not (within c0 c1 k.accent)
-    ∷ R.OutOfRange K.Structure ⇐ not (within c0 c1 k.structure)
-    ∷ R.OutOfRange K.Brightness ⇐ not (within c0 c1 k.brightness)
-    ∷ R.OutOfRange K.Damping ⇐ not (within c0 c1 k.damping)
+    R.OutOfRange K.F0 ⇐ not (in_range lowest c0·5 k.f0)
+    ∷ R.OutOfRange K.Accent ⇐ not (in_range c0 c1 k.accent)
+    ∷ R.OutOfRange K.Structure ⇐ not (in_range c0 c1 k.structure)
+    ∷ R.OutOfRange K.Brightness ⇐ not (in_range c0 c1 k.brightness)
+    ∷ R.OutOfRange K.Damping ⇐ not (in_range c0 c1 k.damping)
     ∷ []
 
 -- the checks of what is asked, of a slot of the kind
 unfoldable pub checks : ℕ → Act → List Check
 checks kind (opening asked rate) =
     R.Kind ⇐ not (eqb asked 1 || eqb asked 2)
-    ∷ R.SampleRate ⇐ not (within c8000 c192000 rate)
+    ∷ R.SampleRate ⇐ not (in_range c8000 c192000 rate)
     ∷ []
 checks kind reset =
     R.Empty ⇐ eqb kind 0

@@ -1,7 +1,7 @@
 // The bank's state by value: eight slots, each with a voice of either kind.
 ghost use Rattle.std.specs.Prelude.{◌≡◌, ◌<◌};
 ghost use Rattle.ground.specs.F32.{c0};
-ghost use Rattle.slots.specs.Slots.{Names, no_string, empty_slot, fresh, slot_at, with_slot, opened};
+ghost use Rattle.slots.specs.Slots.{Names, no_string, empty_slot, fresh_bank, slot_at, with_slot, opened};
 
 use crate::answers::Reason;
 use modal_voice::modal_voice::ModalVoice;
@@ -68,9 +68,9 @@ fn empty_slot() -> Slot
 
 impl Bank {
     // Every slot is empty.
-    #[tactic(auto, unfolding(crate::specs::Slots::fresh))]
+    #[tactic(auto, unfolding(crate::specs::Slots::fresh_bank))]
     pub fn fresh() -> Bank
-        ensures { result ≡ fresh }
+        ensures { result ≡ fresh_bank }
     {
         let empty = empty_slot();
         Bank { slots: [empty; 8] }

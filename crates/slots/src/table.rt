@@ -2,7 +2,7 @@
 ghost use Rattle.std.specs.Prelude.{◌≡◌, ℕ, [], ◌∷◌};
 ghost use Rattle.noise.specs.Buffers.{held};
 ghost use Rattle.slots.specs.Calls.{opening, reset, render};
-ghost use Rattle.slots.specs.Table.{first, ◌⇐◌, within, alike, knob_checks, verdict, bad_slot, bad_slots, bad};
+ghost use Rattle.slots.specs.Table.{first, ◌⇐◌, in_range, alike, knob_checks, verdict, bad_slot, bad_slots, bad};
 
 use crate::answers::{Knob, Reason, Verdict};
 use crate::slots::{Bank, Kind, Slot};
@@ -36,9 +36,9 @@ pub fn bad(bank: Bank, lines: &[f32]) -> bool
 }
 
 // A NaN is in no range.
-#[tactic(auto, unfolding(crate::specs::Table::within))]
+#[tactic(auto, unfolding(crate::specs::Table::in_range))]
 fn within(lo: f32, hi: f32, x: f32) -> bool
-    ensures { result ≡ within lo hi x }
+    ensures { result ≡ in_range lo hi x }
 {
     lo <= x && x <= hi
 }

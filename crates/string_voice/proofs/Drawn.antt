@@ -9,7 +9,7 @@ use lib.ListN.{length}
 use lib.Ieee.{Float}
 use Rattle.ground.specs.F32.{◌⊘◌, c0·5, c1}
 use Rattle.ground.specs.Floats.{whole_part}
-use Rattle.utils.specs.Filter.{svf_step, svf_setFQ}
+use Rattle.utils.specs.Filter.{svf_step, svf_set_f_q}
 use Rattle.utils.specs.declared.filter.FrequencyApproximation.TheVariants.{Dirty}
 use Rattle.ground.specs.Draw.{ret, counted, ◌>>=◌}
 use Rattle.ground.proofs.Draw.{Draws, draws_bind, draws_then, counted_draws}
@@ -21,9 +21,9 @@ use Rattle.waveguide.specs.declared.string.StringNonLinearity.{StringNonLinearit
 use Rattle.waveguide.specs.declared.string.String.{String}
 use Rattle.noise.specs.declared.excitation.Knobs.{Knobs}
 use Rattle.string_voice.specs.declared.string_voice.StringVoice.{StringVoice}
-use Rattle.waveguide.specs.String.{ratio_of, snap, non_linearity, strung}
+use Rattle.waveguide.specs.String.{ratio_of, snap, non_linearity, process}
 use Rattle.waveguide.specs.Kept.{Good, words_at}
-use Rattle.string_voice.specs.StringVoice.{cutoff_for, struck, excitation, excitation_words, Excited, excite_of, amount, Sounded, sound_of, After, render_of}
+use Rattle.string_voice.specs.StringVoice.{cutoff_for, strike, excitation, excitation_words, Excited, excite_of, amount, Sounded, sound_of, After, render_of}
 use Rattle.waveguide.proofs.Steps.{wrap, At}
 use Rattle.waveguide.proofs.Blocks.{ratio_for, strung_draws}
 use Rattle.string_voice.proofs.Excitations.{excitation_draws}
@@ -41,7 +41,7 @@ dust_words sustain n = cond sustain n 0
 
 -- what is left of the noise when a block begins, and behind n frames of it
 abbrev pub left_at : Knobs → StringVoice → ℕ
-left_at k v = (struck k v).remaining_noise_samples
+left_at k v = (strike k v).remaining_noise_samples
 
 abbrev pub left_after : Knobs → StringVoice → ℕ → ℕ
 left_after k v n = cond k.sustain (left_at k v) (left_at k v - min (left_at k v) n)
@@ -67,7 +67,7 @@ pub excite_draws : (k : Knobs) (v : StringVoice) (n : ℕ) (temp temp2 aux : Lis
     → Draws (excitation_words k.sustain (left_at k v) n) (FirstHalf k v n) (excite_of k v temp temp2 aux)
 unfolding excite_of
 excite_draws k v n temp temp2 aux lt l2 la =
-    let s = struck k v in
+    let s = strike k v in
     let m = excitation_words k.sustain (left_at k v) n in
     draws_then m (λ t. (length t.0 ≡ n) × (t.1 ≡ m)) (FirstHalf k v n)
     (counted (excitation k.sustain k (left_at k v) temp)) _
@@ -108,7 +108,7 @@ pub sound_draws : (k : Knobs) (v : StringVoice) (n : ℕ) (lines temp2 out : Lis
 unfolding sound_of
 sound_draws k v n lines temp2 out g l2 lo =
     let m = dispersion_words k v.string n in
-    let s = strung (shape_of k) k.f0 (raised k.accent k.brightness) (raised k.accent k.damping) (v.string, lines) temp2 out in
+    let s = process (shape_of k) k.f0 (raised k.accent k.brightness) (raised k.accent k.damping) (v.string, lines) temp2 out in
     let P : (String × List Float) × List Float → Type 0 = λ q. At (phase_after k v.string n) q.0 × (length q.1 ≡ length out) in
     draws_then m (λ q. P q.0 × (q.1 ≡ m)) (SecondHalf k v n) (counted s) _
     (counted_draws m P s (strung_draws (shape_of k) k.f0 (raised k.accent k.brightness) (raised k.accent k.damping) n (v.string, lines) temp2 out (omega arith) g))
@@ -164,10 +164,10 @@ render_draws k v n lines temp temp2 out aux g lt l2 lo la =
 
 -- ---- left stays at most 1,048,576 for an f0 of 2^-20 or more
 begun_at_most : (k : Knobs) (v : StringVoice) → Fundamental k.f0 → v.remaining_noise_samples ≤ 1048576 → left_at k v ≤ 1048576
-unfolding struck
+unfolding strike
 begun_at_most k v f h = go (k.trigger || k.sustain)
   where
-    go : (b : Bool) → (cond b (record { excitation_filter = svf_setFQ v.excitation_filter (cutoff_for k) (cond k.sustain c1 c0·5) Dirty; string = v.string; remaining_noise_samples = whole_part (c1 ⊘ k.f0) }) v).remaining_noise_samples ≤ 1048576
+    go : (b : Bool) → (cond b (record { excitation_filter = svf_set_f_q v.excitation_filter (cutoff_for k) (cond k.sustain c1 c0·5) Dirty; string = v.string; remaining_noise_samples = whole_part (c1 ⊘ k.f0) }) v).remaining_noise_samples ≤ 1048576
     go true = left_in k.f0 f
     go false = h
 

@@ -9,7 +9,7 @@ use Rattle.ground.specs.Draw.{Draw, Ran, run, counted}
 use Rattle.ground.specs.Frames.{frames}
 use Rattle.ground.proofs.Draw.{run_bind, run_then}
 use Rattle.utils.specs.declared.filter.Svf.{Svf}
-use Rattle.utils.specs.Filter.{svf_step, svf_buffer}
+use Rattle.utils.specs.Filter.{svf_step, svf_process_buffer}
 use Rattle.noise.specs.declared.excitation.Knobs.{Knobs}
 use Rattle.noise.specs.declared.excitation.Counts.{Counts}
 use Rattle.noise.specs.Excitation.{raised, added}
@@ -17,10 +17,10 @@ use Rattle.waveguide.specs.declared.string.StringNonLinearity.{StringNonLinearit
 use Rattle.waveguide.specs.declared.string.Params.{Params}
 use Rattle.waveguide.specs.declared.string.String.{String}
 use Rattle.waveguide.specs.declared.string.Prepared.{Prepared}
-use Rattle.waveguide.specs.String.{non_linearity, prepared_of, frame_of}
+use Rattle.waveguide.specs.String.{non_linearity, prepare, frame}
 use Rattle.waveguide.proofs.Blocks.{processed}
 use Rattle.string_voice.specs.declared.string_voice.StringVoice.{StringVoice}
-use Rattle.string_voice.specs.StringVoice.{struck, excitation, excitation_words, excitation_counts, amount, render_of}
+use Rattle.string_voice.specs.StringVoice.{strike, excitation, excitation_words, excitation_counts, amount, render_of}
 use Rattle.string_voice.specs.OneLoop.{Framed, frames_of}
 use Rattle.string_voice.proofs.Halves.{excited, sounded, rendered}
 
@@ -40,16 +40,16 @@ filter_of s x = svf_step s x nan
 -- what stands at the loop's end
 pub all_frames : (shape : StringNonLinearity) (p : Params) (f : Svf) (s : String × List Float) (temp temp2 out aux : List Float) (word : ℕ)
     {z : Svf} {t : String} {lines' temp2' out' aux' : List Float} {drawn word' : ℕ}
-    → ◌≡◌ {A = Svf × List Float} (z, temp2') (svf_buffer f temp temp2)
-    → aux' ≡ added (svf_buffer f temp temp2).1 aux
-    → run (counted (frames (frame_of shape p) s (svf_buffer f temp temp2).1 out)) word ≡ record { value = (((t, lines'), out'), drawn); word = word' }
+    → ◌≡◌ {A = Svf × List Float} (z, temp2') (svf_process_buffer f temp temp2)
+    → aux' ≡ added (svf_process_buffer f temp temp2).1 aux
+    → run (counted (frames (frame shape p) s (svf_process_buffer f temp temp2).1 out)) word ≡ record { value = (((t, lines'), out'), drawn); word = word' }
     → run (frames_of shape p f s temp temp2 out aux) word ≡ record {
       value = record { filter = z; string = t; lines = lines'; temp2 = temp2'; out = out'; aux = aux'; drawn = drawn };
       word = word';
     }
 unfolding frames_of
 all_frames shape p f s temp temp2 out aux word {z} {t} {lines'} {temp2'} {out'} {aux'} {drawn} {word'} et ea er =
-    run_then (counted (frames (frame_of shape p) s (svf_buffer f temp temp2).1 out)) _ word er
+    run_then (counted (frames (frame shape p) s (svf_process_buffer f temp temp2).1 out)) _ word er
     ∙ (λ j. record {
       value = record { filter = (sym et j).0; string = t; lines = lines'; temp2 = (sym et j).1; out = out'; aux = sym ea j; drawn = drawn };
       word = word';
@@ -64,25 +64,25 @@ module _ (shape : StringNonLinearity) (p : Params) (f : Svf) (s : String × List
     }) where
   -- the string's loop by itself, and all that the loop leaves of it
   abbrev body : List Float → Draw (((String × List Float) × List Float) × ℕ)
-  body xs = counted (frames (frame_of shape p) s xs out)
+  body xs = counted (frames (frame shape p) s xs out)
 
   abbrev whole : Ran (((String × List Float) × List Float) × ℕ) → Ran Framed
   whole r =
       let q = r.value in
-      let b = svf_buffer f temp temp2 in
+      let b = svf_process_buffer f temp temp2 in
       record {
         value = record { filter = b.0; string = q.0.0.0; lines = q.0.0.1; temp2 = b.1; out = q.0.1; aux = added b.1 aux; drawn = q.1 };
         word = r.word;
       }
 
-  left : whole (run (body (svf_buffer f temp temp2).1) word) ≡ record {
+  left : whole (run (body (svf_process_buffer f temp temp2).1) word) ≡ record {
     value = record { filter = z; string = t; lines = lines'; temp2 = temp2'; out = out'; aux = aux'; drawn = drawn };
     word = word';
   }
   unfolding frames_of
-  left = sym (run_bind (body (svf_buffer f temp temp2).1) _ word) ∙ e
+  left = sym (run_bind (body (svf_process_buffer f temp temp2).1) _ word) ∙ e
 
-  pub filtered : ◌≡◌ {A = Svf × List Float} (z, temp2') (svf_buffer f temp temp2)
+  pub filtered : ◌≡◌ {A = Svf × List Float} (z, temp2') (svf_process_buffer f temp temp2)
   filtered = sym (ap (λ (r : Ran Framed). (r.value.filter, r.value.temp2)) left)
 
   pub mixed : aux' ≡ added temp2' aux
@@ -96,12 +96,12 @@ module _ (shape : StringNonLinearity) (p : Params) (f : Svf) (s : String × List
 -- ---- the render
 module _ (k : Knobs) (v s : StringVoice) (lines temp temp2 out aux : List Float) (word : ℕ) where
   pub together : {left w w' : ℕ} {counts : Counts} {temp' temp2' out' aux' lines' : List Float} {x b d : Float} {shape : StringNonLinearity} {q : Prepared} {z : Svf} {t : String} {drawn : ℕ}
-      → s ≡ struck k v
+      → s ≡ strike k v
       → left ≡ cond k.sustain s.remaining_noise_samples (s.remaining_noise_samples - min s.remaining_noise_samples (length temp))
       → counts ≡ excitation_counts k.sustain (excitation_words k.sustain s.remaining_noise_samples (length temp))
       → run (excitation k.sustain k s.remaining_noise_samples temp) word ≡ record { value = temp'; word = w }
       → x ≡ amount k.structure → shape ≡ non_linearity x → b ≡ raised k.accent k.brightness → d ≡ raised k.accent k.damping
-      → q ≡ prepared_of s.string shape k.f0 b d (length out)
+      → q ≡ prepare s.string shape k.f0 b d (length out)
       → run (frames_of q.block.shape q.block.params s.excitation_filter (q.string, lines) temp' temp2 out aux) w ≡ record {
         value = record { filter = z; string = t; lines = lines'; temp2 = temp2'; out = out'; aux = aux'; drawn = drawn };
         word = w';

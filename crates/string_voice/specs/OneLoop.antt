@@ -3,7 +3,7 @@ use Rattle.std.specs.Prelude.{◌≡◌, List, ℕ, Float}
 use Rattle.ground.specs.Draw.{Draw, run, ret, counted, ◌>>=◌}
 use Rattle.ground.specs.Frames.{frames}
 use Rattle.utils.specs.declared.filter.Svf.{Svf}
-use Rattle.utils.specs.Filter.{svf_buffer}
+use Rattle.utils.specs.Filter.{svf_process_buffer}
 use Rattle.noise.specs.declared.buffers.Buffers.{Buffers}
 use Rattle.noise.specs.declared.excitation.Knobs.{Knobs}
 use Rattle.noise.specs.declared.excitation.Rendered.{Rendered}
@@ -12,7 +12,7 @@ use Rattle.noise.specs.Excitation.{added}
 use Rattle.waveguide.specs.declared.string.StringNonLinearity.{StringNonLinearity}
 use Rattle.waveguide.specs.declared.string.Params.{Params}
 use Rattle.waveguide.specs.declared.string.String.{String}
-use Rattle.waveguide.specs.String.{frame_of}
+use Rattle.waveguide.specs.String.{frame}
 use Rattle.string_voice.specs.declared.string_voice.StringVoice.{StringVoice}
 use Rattle.string_voice.specs.StringVoice.{render_of}
 
@@ -29,8 +29,8 @@ pub record Framed : Type 0 where
 -- the filter, the mix into aux, and the string, one after the other
 unfoldable pub frames_of : StringNonLinearity → Params → Svf → String × List Float → List Float → List Float → List Float → List Float → Draw Framed
 frames_of shape p f s temp temp2 out aux =
-    let e = svf_buffer f temp temp2 in
-    counted (frames (frame_of shape p) s e.1 out) >>= λ q.
+    let e = svf_process_buffer f temp temp2 in
+    counted (frames (frame shape p) s e.1 out) >>= λ q.
     ret record { filter = e.0; string = q.0.0.0; lines = q.0.0.1; temp2 = e.1; out = q.0.1; aux = added e.1 aux; drawn = q.1 }
 
 -- render_of the voice, its lines and what stands in the buffers gives the answer, the lines and what stands in the buffers now; they are those that were lent

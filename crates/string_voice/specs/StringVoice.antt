@@ -6,13 +6,13 @@ use Rattle.ground.specs.Draw.{Draw, ret, ask, counted, ◌>>=◌}
 use Rattle.ground.specs.Floats.{whole_part, min_f}
 use Rattle.ground.specs.Random.{noise_of}
 use Rattle.utils.specs.Units.{semitones_to_ratio}
-use Rattle.utils.specs.Filter.{svf_new, svf_init, svf_setFQ, svf_buffer}
+use Rattle.utils.specs.Filter.{svf_new, svf_init, svf_set_f_q, svf_process_buffer}
 use Rattle.utils.specs.declared.filter.FrequencyApproximation.TheVariants.{Dirty}
 use Rattle.noise.specs.declared.excitation.Knobs.{Knobs}
 use Rattle.noise.specs.declared.excitation.Counts.{Counts}
 use Rattle.noise.specs.Excitation.{raised, dust_frequency, dusted, filled, silence, added}
 use Rattle.string_voice.specs.declared.string_voice.StringVoice.{StringVoice}
-use Rattle.waveguide.specs.String.{string_new, string_reset, string_init, non_linearity, strung}
+use Rattle.waveguide.specs.String.{string_new, string_reset, string_init, non_linearity, process}
 
 -- ---- StringVoice::new, init and reset: the voice, and its lines
 
@@ -40,11 +40,11 @@ unfoldable pub cutoff_for : Knobs → Float
 cutoff_for k = min_f (c4 ⊗ k.f0 ⊗ semitones_to_ratio (exciter_semitones (raised k.accent k.brightness))) c0·499
 
 -- with trigger or sustain the noise begins anew and the filter is set
-unfoldable pub struck : Knobs → StringVoice → StringVoice
-struck k v =
+unfoldable pub strike : Knobs → StringVoice → StringVoice
+strike k v =
     cond (k.trigger || k.sustain)
     (record v {
-      excitation_filter = svf_setFQ v.excitation_filter (cutoff_for k) (cond k.sustain c1 c0·5) Dirty;
+      excitation_filter = svf_set_f_q v.excitation_filter (cutoff_for k) (cond k.sustain c1 c0·5) Dirty;
       remaining_noise_samples = whole_part (c1 ⊘ k.f0);
     })
     v
@@ -79,10 +79,10 @@ excitation_counts sustain drawn = record { burst = cond sustain 0 drawn; dust = 
 
 unfoldable pub excite_of : Knobs → StringVoice → List Float → List Float → List Float → Draw Excited
 excite_of k v temp temp2 aux =
-    let s = struck k v in
+    let s = strike k v in
     let left = s.remaining_noise_samples in
     counted (excitation k.sustain k left temp) >>= λ t.
-    let f = svf_buffer s.excitation_filter t.0 temp2 in
+    let f = svf_process_buffer s.excitation_filter t.0 temp2 in
     ret record {
       voice = record s { excitation_filter = f.0; remaining_noise_samples = cond k.sustain left (left - min left (length temp)) };
       temp = t.0;
@@ -106,7 +106,7 @@ pub record Sounded : Type 0 where
 
 unfoldable pub sound_of : Knobs → StringVoice → List Float → List Float → List Float → Draw Sounded
 sound_of k v lines temp2 out =
-    counted (strung (non_linearity (amount k.structure)) k.f0 (raised k.accent k.brightness) (raised k.accent k.damping) (v.string, lines) temp2 out) >>= λ s.
+    counted (process (non_linearity (amount k.structure)) k.f0 (raised k.accent k.brightness) (raised k.accent k.damping) (v.string, lines) temp2 out) >>= λ s.
     ret record {
       voice = record v { string = s.0.0.0 };
       lines = s.0.0.1;

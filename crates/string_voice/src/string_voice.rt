@@ -4,7 +4,7 @@ ghost use Rattle.ground.specs.Draw.{run, Ran};
 ghost use Rattle.waveguide.specs.Kept.{Good};
 ghost use Rattle.noise.specs.Excitation.{Alike};
 ghost use Rattle.noise.specs.Buffers.{IsAlike, IsSame};
-ghost use Rattle.string_voice.specs.StringVoice.{voice_new, voice_init, voice_reset, cutoff_for, struck, burst, excitation, excitation_words, excitation_counts, Excited, excite_of, amount, Sounded, sound_of, After, render_of};
+ghost use Rattle.string_voice.specs.StringVoice.{voice_new, voice_init, voice_reset, cutoff_for, strike, burst, excitation, excitation_words, excitation_counts, Excited, excite_of, amount, Sounded, sound_of, After, render_of};
 ghost use Rattle.string_voice.specs.OneLoop.{Framed, frames_of, Renders};
 
 use noise::ahead::Passed;
@@ -190,9 +190,9 @@ impl StringVoice {
 
     // With trigger or sustain the noise begins anew and the filter is set. It is in line, so that `render` works out no more of it than the noise.
     #[inline(always)]
-    #[tactic(auto, unfolding(crate::specs::StringVoice::struck))]
+    #[tactic(auto, unfolding(crate::specs::StringVoice::strike))]
     fn strike(self, k: Knobs) -> StringVoice
-        ensures { result ≡ struck k self }
+        ensures { result ≡ strike k self }
     {
         if !(k.trigger | k.sustain) {
             return self;

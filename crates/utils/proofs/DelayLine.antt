@@ -8,8 +8,8 @@ use lib.ListN.{length}
 use lib.Ieee.{Float}
 use Rattle.ground.specs.declared.floats.Parts.{Parts}
 use Rattle.ground.specs.Floats.{whole_part, fraction_of, split_of}
-use Rattle.utils.specs.Utils.{crossfade_of}
-use Rattle.utils.specs.DelayLine.{tap, cubic_of, read_frac, read_hermite}
+use Rattle.utils.specs.Utils.{crossfade}
+use Rattle.utils.specs.DelayLine.{tap, cubic_of, read_with_delay_frac, read_hermite}
 
 module _ (line : List Float) where
   -- t has the delay taken round, where u has the whole delay
@@ -22,9 +22,9 @@ module _ (line : List Float) where
 
   -- ---- the reads: at is the write place, p the delay's parts
   pub read_frac_lem : (at : ℕ) (p : Parts) (delay a b r : Float) → p ≡ split_of delay
-      → a ≡ tap line (at + p.integral % length line) → b ≡ tap line (at + p.integral % length line + 1) → r ≡ crossfade_of a b p.fractional
-      → r ≡ read_frac line at delay
-  unfolding read_frac
+      → a ≡ tap line (at + p.integral % length line) → b ≡ tap line (at + p.integral % length line + 1) → r ≡ crossfade a b p.fractional
+      → r ≡ read_with_delay_frac line at delay
+  unfolding read_with_delay_frac
   read_frac_lem at p delay a b r pe ae be e =
       let d = p.integral in
       let t = at + d % length line in

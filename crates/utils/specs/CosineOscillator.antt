@@ -11,18 +11,18 @@ with_coefficient o sign f =
     record o { iir_coefficient = k; initial_amplitude = k ⊗ c0·25 }
 
 -- init_approximate
-unfoldable pub approximate : CosineOscillator → Float → CosineOscillator
-approximate o frequency =
+unfoldable pub init_approximate : CosineOscillator → Float → CosineOscillator
+init_approximate o frequency =
     let f = frequency ⊖ c0·25 in
     cond (lt f c0) (with_coefficient o c16 (neg f)) (cond (lt c0·5 f) (with_coefficient o c16 (f ⊖ c0·5)) (with_coefficient o (neg c16) f))
 
 -- start
-unfoldable pub started : CosineOscillator → CosineOscillator
-started o = record o { y1 = o.initial_amplitude; y0 = c0·5 }
+unfoldable pub osc_start : CosineOscillator → CosineOscillator
+osc_start o = record o { y1 = o.initial_amplitude; y0 = c0·5 }
 
 -- new, then init(frequency, Approximate)
 unfoldable pub osc_init : Float → CosineOscillator
-osc_init frequency = started (approximate (record { y1 = c0; y0 = c0; iir_coefficient = c0; initial_amplitude = c0 }) frequency)
+osc_init frequency = osc_start (init_approximate (record { y1 = c0; y0 = c0; iir_coefficient = c0; initial_amplitude = c0 }) frequency)
 
 -- next
 unfoldable pub osc_next : CosineOscillator → CosineOscillator × Float

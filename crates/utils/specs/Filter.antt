@@ -16,15 +16,15 @@ unfoldable pub dc_init : Float → DcBlocker
 dc_init pole = record { pole = pole; x = c0; y = c0 }
 
 -- process, of one sample
-unfoldable pub dc_of : DcBlocker → Float → DcBlocker
-dc_of d x = record d { x = x; y = d.y ⊗ d.pole ⊕ x ⊖ d.x }
+unfoldable pub dc_process_sample : DcBlocker → Float → DcBlocker
+dc_process_sample d x = record d { x = x; y = d.y ⊗ d.pole ⊕ x ⊖ d.x }
 
 -- process: in place, so that the input is the buffer itself
 abbrev pub dc_step : DcBlocker → Float → Float → DcBlocker × Float
-dc_step d x y = (dc_of d y, (dc_of d y).y)
+dc_step d x y = (dc_process_sample d y, (dc_process_sample d y).y)
 
-abbrev pub dc_buffer : DcBlocker → List Float → DcBlocker × List Float
-dc_buffer d ys = scan dc_step d ys ys
+abbrev pub dc_process : DcBlocker → List Float → DcBlocker × List Float
+dc_process d ys = scan dc_step d ys ys
 
 -- ---- OnePole::tan, and its constants, composed as in the Rust
 
@@ -71,19 +71,19 @@ unfoldable pub svf_reset : Svf → Svf
 svf_reset s = record s { state_1 = c0; state_2 = c0 }
 
 -- set_f_q
-unfoldable pub svf_setFQ : Svf → Float → Float → FrequencyApproximation → Svf
-svf_setFQ s f resonance approximation =
+unfoldable pub svf_set_f_q : Svf → Float → Float → FrequencyApproximation → Svf
+svf_set_f_q s f resonance approximation =
     let g = tan_of approximation f in
     let r = c1 ⊘ resonance in
     record s { g = g; r = r; h = c1 ⊘ (c1 ⊕ r ⊗ g ⊕ g ⊗ g) }
 
 -- init
 unfoldable pub svf_init : Svf → Svf
-svf_init s = svf_reset (svf_setFQ s c0·01 c100 Dirty)
+svf_init s = svf_reset (svf_set_f_q s c0·01 c100 Dirty)
 
 -- process, at FilterMode::LowPass
-unfoldable pub svf_of : Svf → Float → Svf × Float
-svf_of s x =
+unfoldable pub svf_process : Svf → Float → Svf × Float
+svf_process s x =
     let hp = (x ⊖ s.r ⊗ s.state_1 ⊖ s.g ⊗ s.state_1 ⊖ s.state_2) ⊗ s.h in
     let bp = s.g ⊗ hp ⊕ s.state_1 in
     let lp = s.g ⊗ bp ⊕ s.state_2 in
@@ -91,7 +91,7 @@ svf_of s x =
 
 -- process_buffer, at FilterMode::LowPass: the frames of the zipped buffers
 abbrev pub svf_step : Svf → Float → Float → Svf × Float
-svf_step s x y = svf_of s x
+svf_step s x y = svf_process s x
 
-abbrev pub svf_buffer : Svf → List Float → List Float → Svf × List Float
-svf_buffer = scan svf_step
+abbrev pub svf_process_buffer : Svf → List Float → List Float → Svf × List Float
+svf_process_buffer = scan svf_step

@@ -6,9 +6,9 @@ use Rattle.utils.specs.declared.parameter_interpolator.ParameterInterpolator.{Pa
 use Rattle.ground.specs.F32.{◌⊕◌, ◌⊖◌, ◌⊘◌}
 
 -- ParameterInterpolator::new
-unfoldable pub interpolator_of : Float → Float → ℕ → ParameterInterpolator
-interpolator_of state new size = record { value = state; increment = (new ⊖ state) ⊘ of_int binary32 (pos size) }
+unfoldable pub interpolator_new : Float → Float → ℕ → ParameterInterpolator
+interpolator_new state new size = record { value = state; increment = (new ⊖ state) ⊘ of_int binary32 (pos size) }
 
 -- next
-unfoldable pub next_of : ParameterInterpolator → ParameterInterpolator
-next_of p = record p { value = p.value ⊕ p.increment }
+unfoldable pub interpolator_next : ParameterInterpolator → ParameterInterpolator
+interpolator_next p = record p { value = p.value ⊕ p.increment }

@@ -10,12 +10,12 @@ unfoldable pub one_pole : Float → Float → Float → Float
 one_pole out x coefficient = out ⊕ coefficient ⊗ (x ⊖ out)
 
 -- crossfade
-unfoldable pub crossfade_of : Float → Float → Float → Float
-crossfade_of a b fade = a ⊕ (b ⊖ a) ⊗ fade
+unfoldable pub crossfade : Float → Float → Float → Float
+crossfade a b fade = a ⊕ (b ⊖ a) ⊗ fade
 
 -- interpolate(&LUT_STIFFNESS, index, 64.0), and 2.0 at index 1, where the Rust reads entry 65 of 65 and halts (01 'Filters, lines and tables')
-unfoldable pub interpolate_of : Float → Float
-interpolate_of index =
+unfoldable pub interpolate : Float → Float
+interpolate index =
     let x = clamp_f index c0 c1 ⊗ c64 in
     let i = whole_part x in
-    cond (leb 64 i) c2 (crossfade_of (entry stiffness i) (entry stiffness (i + 1)) (fraction_of x))
+    cond (leb 64 i) c2 (crossfade (entry stiffness i) (entry stiffness (i + 1)) (fraction_of x))

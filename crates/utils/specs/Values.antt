@@ -6,19 +6,19 @@ use Rattle.std.specs.Float.Ieee.{of_bits, of_int, add, sub, mul, div, neg, lt, l
 use Rattle.resources.specs.Stiffness.{stiffness}
 use Rattle.resources.specs.Pitch.{pitch_ratio_high, pitch_ratio_low}
 use Rattle.ground.specs.F32.{c0, c0·25, c0·5, c1, c2}
-use Rattle.ground.specs.Random.{next, word_float, float_of, noise_of}
+use Rattle.ground.specs.Random.{get_word, word_float, get_float, noise_of}
 use Rattle.ground.specs.Floats.{whole_part, fraction_of, clamp_f}
-use Rattle.utils.specs.DelayLine.{tap, written, cubic_of, read_hermite, allpass_of}
+use Rattle.utils.specs.DelayLine.{tap, line_write, cubic_of, read_hermite, allpass}
 use Rattle.utils.specs.Units.{high_index, low_index, semitones_to_ratio}
-use Rattle.utils.specs.Utils.{crossfade_of, interpolate_of}
+use Rattle.utils.specs.Utils.{crossfade, interpolate}
 
 -- Word after 33 (0x21): 1068833548; its noise value 2u - 1 is -4213477/8388608.
-pub word_after_33 : next 33 ≡ 1068833548
-unfolding next
+pub word_after_33 : get_word 33 ≡ 1068833548
+unfolding get_word
 word_after_33 = refl
 
-pub noise_after_33 : noise_of (next 33) ≡ fin true 4213477 (negsuc 22)
-unfolding next noise_of float_of of_bits of_int sub mul div
+pub noise_after_33 : noise_of (get_word 33) ≡ fin true 4213477 (negsuc 22)
+unfolding get_word noise_of get_float of_bits of_int sub mul div
 noise_after_33 = refl
 
 -- Words 0, 1, 0x01000001, 0x01000003, 0xFFFFFF7F, 0xFFFFFF80 as whole floats: 0, 1, 16777216, 16777220, 4294967040, 4294967296.
@@ -33,18 +33,18 @@ unfolding whole_part of_bits le lt to_unsigned
 whole_parts = refl
 
 -- a fresh line of n, whose place is 0
-abbrev pub fresh : ℕ → List Float
-fresh n = replicate n c0
+abbrev pub zeros : ℕ → List Float
+zeros n = replicate n c0
 
 -- Fresh string line, write 1.0: Hermite reads at 1, 1.5 and 2 give 1, 0.5625 and 0.
-pub hermite_reads : let w = written (fresh 1024) 0 c1 in
+pub hermite_reads : let w = line_write (zeros 1024) 0 c1 in
     map (read_hermite w.1 w.0) (c1 ∷ fin false 3 (negsuc 0) ∷ c2 ∷ []) ≡ c1 ∷ fin false 9 (negsuc 3) ∷ c0 ∷ []
 unfolding read_hermite cubic_of tap whole_part fraction_of of_bits of_int to_unsigned le lt add sub mul
 hermite_reads = refl
 
 -- Fresh stretch line, sample 1, delay 4, coefficient 0.5: -0.5.
-pub allpass_at_4 : (allpass_of (fresh 256) 0 c1 4 c0·5).0.out ≡ neg c0·5
-unfolding allpass_of tap of_bits add mul neg
+pub allpass_at_4 : (allpass (zeros 256) 0 c1 4 c0·5).0.out ≡ neg c0·5
+unfolding allpass tap of_bits add mul neg
 allpass_at_4 = refl
 
 -- Semitones 0 and 12: 1 and 2.
@@ -53,6 +53,6 @@ unfolding semitones_to_ratio high_index low_index pitch_ratio_high pitch_ratio_l
 ratios_of_semitones = refl
 
 -- Structure 0.25 and 1: stiffness 0 and 2.
-pub stiffnesses : map interpolate_of (c0·25 ∷ c1 ∷ []) ≡ c0 ∷ c2 ∷ []
-unfolding interpolate_of crossfade_of stiffness clamp_f whole_part fraction_of of_bits of_int to_unsigned le lt add sub mul
+pub stiffnesses : map interpolate (c0·25 ∷ c1 ∷ []) ≡ c0 ∷ c2 ∷ []
+unfolding interpolate crossfade stiffness clamp_f whole_part fraction_of of_bits of_int to_unsigned le lt add sub mul
 stiffnesses = refl

@@ -1,6 +1,6 @@
 // Cosine oscillator: a cosine between 0.0 and 1.0, by the approximate coefficient.
 ghost use Rattle.std.specs.Prelude.{◌≡◌};
-ghost use Rattle.utils.specs.CosineOscillator.{with_coefficient, approximate, started, osc_init, osc_next};
+ghost use Rattle.utils.specs.CosineOscillator.{with_coefficient, init_approximate, osc_start, osc_init, osc_next};
 ghost use Rattle.utils.specs.Amplitudes.{amplitudes_of};
 
 #[derive(Clone, Copy)]
@@ -25,9 +25,9 @@ impl CosineOscillator {
         }
     }
 
-    #[tactic(auto, unfolding(crate::specs::CosineOscillator::approximate))]
+    #[tactic(auto, unfolding(crate::specs::CosineOscillator::init_approximate))]
     fn init_approximate(self, frequency: f32) -> CosineOscillator
-        ensures { result ≡ approximate self frequency }
+        ensures { result ≡ init_approximate self frequency }
     {
         let f = frequency - 0.25;
         if f < 0.0 {
@@ -39,9 +39,9 @@ impl CosineOscillator {
         }
     }
 
-    #[tactic(auto, unfolding(crate::specs::CosineOscillator::started))]
+    #[tactic(auto, unfolding(crate::specs::CosineOscillator::osc_start))]
     fn start(self) -> CosineOscillator
-        ensures { result ≡ started self }
+        ensures { result ≡ osc_start self }
     {
         CosineOscillator {
             y1: self.initial_amplitude,

@@ -2,7 +2,7 @@
 // The two are parameters and no struct, and each call asks that the place lies in the slice: the string keeps its place as a number and is lent its lines for a
 // call, so a struct of them would be made before each read and taken apart behind each write.
 ghost use Rattle.std.specs.Prelude.{◌≡◌, ◌<◌, ◌%◌, length};
-ghost use Rattle.utils.specs.DelayLine.{cleared, tap, written, cubic_of, allpass_of, read_frac, read_hermite};
+ghost use Rattle.utils.specs.DelayLine.{line_reset, tap, line_write, cubic_of, allpass, read_with_delay_frac, read_hermite};
 
 // What the all-pass gives, and the next place. By name: of a pair its callers would have to know which number is the sample.
 #[derive(Clone, Copy)]
@@ -13,7 +13,7 @@ pub struct AllpassOut {
 
 // Clears the line, and gives the place to begin at.
 pub fn reset(line: &mut [f32]) -> usize
-    ensures { (result, line.new) ≡ cleared line.old }
+    ensures { (result, line.new) ≡ line_reset line.old }
 {
     line.fill(0.0);
     0
@@ -31,7 +31,7 @@ fn read(line: &[f32], t: usize) -> f32
 // Stores the sample at the place, and gives the next place, one down.
 pub fn write(line: &mut [f32], write_ptr: usize, sample: f32) -> usize
     requires { write_ptr < length line.old }
-    ensures { (result, line.new) ≡ written line.old write_ptr sample }
+    ensures { (result, line.new) ≡ line_write line.old write_ptr sample }
 {
     let n = line.len();
     line[write_ptr] = sample;
@@ -46,7 +46,7 @@ pub fn allpass(
     coefficient: f32,
 ) -> AllpassOut
     requires { write_ptr < length line.old }
-    ensures { (result, line.new) ≡ allpass_of line.old write_ptr sample delay coefficient }
+    ensures { (result, line.new) ≡ allpass line.old write_ptr sample delay coefficient }
 {
     let t = write_ptr + delay % line.len();
     let tapped = read(line, t);
@@ -73,7 +73,7 @@ fn cubic(xm1: f32, x0: f32, x1: f32, x2: f32, f: f32) -> f32
 
 pub fn read_with_delay_frac(line: &[f32], write_ptr: usize, delay: f32) -> f32
     requires { write_ptr < length line.now }
-    ensures { result ≡ read_frac line.now write_ptr delay }
+    ensures { result ≡ read_with_delay_frac line.now write_ptr delay }
 {
     let delayed = ground::floats::split(delay);
     let t = write_ptr + delayed.integral % line.len();

@@ -1,6 +1,6 @@
 // Zero-delay-feedback filters: the state variable filter at its low pass, and the DC blocker.
 ghost use Rattle.std.specs.Prelude.{◌≡◌};
-ghost use Rattle.utils.specs.Filter.{tan_of, dc_init, dc_of, dc_buffer, svf_new, svf_init, svf_reset, svf_setFQ, svf_of, svf_buffer};
+ghost use Rattle.utils.specs.Filter.{tan_of, dc_init, dc_process_sample, dc_process, svf_new, svf_init, svf_reset, svf_set_f_q, svf_process, svf_process_buffer};
 
 #[derive(Clone, Copy)]
 pub enum FrequencyApproximation {
@@ -42,9 +42,9 @@ impl DcBlocker {
     }
 
     // `process` of one sample, which is the new y.
-    #[tactic(auto, unfolding(crate::specs::Filter::dc_of))]
+    #[tactic(auto, unfolding(crate::specs::Filter::dc_process_sample))]
     pub fn process_sample(self, sample: f32) -> DcBlocker
-        ensures { result ≡ dc_of self sample }
+        ensures { result ≡ dc_process_sample self sample }
     {
         DcBlocker {
             x: sample,
@@ -54,7 +54,7 @@ impl DcBlocker {
     }
 
     pub fn process(self, in_out: &mut [f32]) -> DcBlocker
-        ensures { (result, in_out.new) ≡ dc_buffer self in_out.old }
+        ensures { (result, in_out.new) ≡ dc_process self in_out.old }
     {
         let mut blocker = self;
         for sample in in_out.iter_mut() {
@@ -121,9 +121,9 @@ impl Svf {
         }
     }
 
-    #[tactic(auto, unfolding(crate::specs::Filter::svf_setFQ))]
+    #[tactic(auto, unfolding(crate::specs::Filter::svf_set_f_q))]
     pub fn set_f_q(self, f: f32, resonance: f32, approximation: FrequencyApproximation) -> Svf
-        ensures { result ≡ svf_setFQ self f resonance approximation }
+        ensures { result ≡ svf_set_f_q self f resonance approximation }
     {
         let g = tan(f, approximation);
         let r = 1.0 / resonance;
@@ -136,9 +136,9 @@ impl Svf {
     }
 
     // `process` at the low pass: the filter after a sample, and the sample that it gives.
-    #[tactic(auto, unfolding(crate::specs::Filter::svf_of))]
+    #[tactic(auto, unfolding(crate::specs::Filter::svf_process))]
     pub fn process(self, in_: f32) -> (Svf, f32)
-        ensures { result ≡ svf_of self in_ }
+        ensures { result ≡ svf_process self in_ }
     {
         let hp = (in_ - self.r * self.state_1 - self.g * self.state_1 - self.state_2) * self.h;
         let bp = self.g * hp + self.state_1;
@@ -153,7 +153,7 @@ impl Svf {
 
     // `process_buffer` at the low pass: the frames that both buffers have. `process_low` of a mode is another loop of the Rust, which adds what it gives.
     pub fn process_buffer(self, in_: &[f32], out: &mut [f32]) -> Svf
-        ensures { (result, out.new) ≡ svf_buffer self in_.now out.old }
+        ensures { (result, out.new) ≡ svf_process_buffer self in_.now out.old }
     {
         let n = in_.len().min(out.len());
         let mut svf = self;

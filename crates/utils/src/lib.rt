@@ -2,7 +2,7 @@
 #![tactic(auto)]
 
 ghost use Rattle.std.specs.Prelude.{◌≡◌};
-ghost use Rattle.utils.specs.Utils.{interpolate_of, one_pole, crossfade_of};
+ghost use Rattle.utils.specs.Utils.{interpolate, one_pole, crossfade};
 
 pub mod cosine_oscillator;
 pub mod delay_line;
@@ -11,9 +11,9 @@ pub mod parameter_interpolator;
 pub mod units;
 
 // `interpolate` over the stiffness table of 65, whose size is 64: an index of 1 gives the last entry.
-#[tactic(auto, unfolding(crate::specs::Utils::interpolate_of))]
+#[tactic(auto, unfolding(crate::specs::Utils::interpolate))]
 pub fn interpolate(index: f32) -> f32
-    ensures { result ≡ interpolate_of index }
+    ensures { result ≡ interpolate index }
 {
     let scaled = ground::floats::split(ground::floats::clamp(index, 0.0, 1.0) * 64.0);
     let integral = scaled.integral;
@@ -32,9 +32,9 @@ pub fn one_pole(out: f32, in_: f32, coefficient: f32) -> f32
     out + coefficient * (in_ - out)
 }
 
-#[tactic(auto, unfolding(crate::specs::Utils::crossfade_of))]
+#[tactic(auto, unfolding(crate::specs::Utils::crossfade))]
 pub fn crossfade(a: f32, b: f32, fade: f32) -> f32
-    ensures { result ≡ crossfade_of a b fade }
+    ensures { result ≡ crossfade a b fade }
 {
     a + (b - a) * fade
 }

@@ -1,6 +1,6 @@
 // Linear interpolation of parameters in rendering loops.
 ghost use Rattle.std.specs.Prelude.{◌≡◌, ◌≤◌, ◌^◌};
-ghost use Rattle.utils.specs.ParameterInterpolator.{interpolator_of, next_of};
+ghost use Rattle.utils.specs.ParameterInterpolator.{interpolator_new, interpolator_next};
 
 // The value goes on by its increment; whoever keeps the parameter stores the last value.
 #[derive(Clone, Copy)]
@@ -10,10 +10,10 @@ pub struct ParameterInterpolator {
 }
 
 impl ParameterInterpolator {
-    #[tactic(auto, unfolding(crate::specs::ParameterInterpolator::interpolator_of))]
+    #[tactic(auto, unfolding(crate::specs::ParameterInterpolator::interpolator_new))]
     pub fn new(state: f32, new_value: f32, size: usize) -> ParameterInterpolator
         requires { size ≤ 2 ^ 24 }
-        ensures { result ≡ interpolator_of state new_value size }
+        ensures { result ≡ interpolator_new state new_value size }
     {
         ParameterInterpolator {
             value: state,
@@ -22,9 +22,9 @@ impl ParameterInterpolator {
     }
 
     // The Rust's `next` gives the value that it moves to.
-    #[tactic(auto, unfolding(crate::specs::ParameterInterpolator::next_of))]
+    #[tactic(auto, unfolding(crate::specs::ParameterInterpolator::interpolator_next))]
     pub fn next(self) -> ParameterInterpolator
-        ensures { result ≡ next_of self }
+        ensures { result ≡ interpolator_next self }
     {
         ParameterInterpolator {
             value: self.value + self.increment,

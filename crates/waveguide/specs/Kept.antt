@@ -7,7 +7,7 @@ use Rattle.ground.specs.Frames.{after}
 use Rattle.waveguide.specs.declared.string.StringNonLinearity.{StringNonLinearity}
 use Rattle.waveguide.specs.declared.string.StringNonLinearity.TheVariants.{CurvedBridge, Dispersion}
 use Rattle.waveguide.specs.declared.string.String.{String}
-use Rattle.waveguide.specs.String.{prepared_of, strung}
+use Rattle.waveguide.specs.String.{prepare, process}
 
 -- what a string's state and its lines always are
 pub record Good (s : String × List Float) : Type 0 where
@@ -32,6 +32,6 @@ steps ratio (suc n) phase = let q = phase ⊕ ratio in cond (lt c1 q) 1 0 + step
 -- 01 'Filters, lines and tables': the kept delay is the old delay with each increment actually taken added in turn, never the target
 unfoldable pub KeptDelay : Type 0
 KeptDelay = (shape : StringNonLinearity) (f0 brightness damping : Float) (s : String × List Float) (xs ys : List Float) (word : ℕ)
-    → let b = prepared_of s.0 shape f0 brightness damping (length ys) in
-    (value (strung shape f0 brightness damping s xs ys) word).0.0.delay
+    → let b = prepare s.0 shape f0 brightness damping (length ys) in
+    (value (process shape f0 brightness damping s xs ys) word).0.0.delay
     ≡ after (λ d. d ⊕ b.block.params.increment) (steps b.block.params.src_ratio (min (length xs) (length ys)) b.string.src_phase) s.0.delay

@@ -7,14 +7,14 @@ use Rattle.ground.specs.F32.{◌⊕◌, ◌⊖◌, ◌⊗◌, ◌⊘◌, c0, c0�
 use Rattle.ground.specs.F32.{c0·94, c0·95, c0·9999, c1, c1·5, c2, c2·1, c4, c12, c20, c24, c60, c84, c100, c128, c160, c255, c1020, c48000}
 use Rattle.ground.specs.Draw.{Draw, ret, ask, ◌>>=◌}
 use Rattle.ground.specs.Frames.{frames}
-use Rattle.ground.specs.Part.{part, within}
+use Rattle.ground.specs.Part.{part, on_part}
 use Rattle.ground.specs.Floats.{whole_part, fraction_of, min_f, clamp_f, abs_f}
-use Rattle.ground.specs.Random.{float_of}
-use Rattle.utils.specs.Utils.{one_pole, crossfade_of}
+use Rattle.ground.specs.Random.{get_float}
+use Rattle.utils.specs.Utils.{one_pole, crossfade}
 use Rattle.utils.specs.Units.{semitones_to_ratio}
-use Rattle.utils.specs.ParameterInterpolator.{interpolator_of}
-use Rattle.utils.specs.Filter.{svf_new, svf_init, svf_setFQ, svf_of, dc_init, dc_of}
-use Rattle.utils.specs.DelayLine.{cleared, written, allpass_of, read_frac, read_hermite}
+use Rattle.utils.specs.ParameterInterpolator.{interpolator_new}
+use Rattle.utils.specs.Filter.{svf_new, svf_init, svf_set_f_q, svf_process, dc_init, dc_process_sample}
+use Rattle.utils.specs.DelayLine.{line_reset, line_write, allpass, read_with_delay_frac, read_hermite}
 use Rattle.utils.specs.declared.filter.FrequencyApproximation.TheVariants.{Fast}
 use Rattle.waveguide.specs.declared.string.StringNonLinearity.{StringNonLinearity}
 use Rattle.waveguide.specs.declared.string.StringNonLinearity.TheVariants.{CurvedBridge, Dispersion}
@@ -46,7 +46,7 @@ string_new =
 unfoldable pub string_reset : String → List Float → String × List Float
 string_reset s lines =
     let t = record s { string = 0; stretch = 0; dispersion_noise = c0; curved_bridge = c0; src_phase = c0; out_sample_0 = c0; out_sample_1 = c0 } in
-    (t, (cleared lines).1)
+    (t, (line_reset lines).1)
 
 unfoldable pub string_init : String → Float → List Float → String × List Float
 string_init s rate lines =
@@ -97,7 +97,7 @@ unfoldable pub compensation_of : Float → Float
 compensation_of cutoff =
     let x = clamp_f cutoff c0 c255 in
     let i = whole_part x in
-    crossfade_of (entry svf_shift i) (entry svf_shift (i + 1)) (fraction_of x)
+    crossfade (entry svf_shift i) (entry svf_shift (i + 1)) (fraction_of x)
 
 unfoldable pub noise_amount_of : Float → Float
 noise_amount_of amount = let root = cond (lt c0·75 amount) (c4 ⊗ (amount ⊖ c0·75)) c0 in root ⊗ root ⊗ c0·1
@@ -108,7 +108,7 @@ params_of s f0 amount d n =
     let delay = delay_of f0 in
     record {
       src_ratio = snap (ratio_of f0) (ratio_of f0);
-      increment = (interpolator_of s.delay (delay ⊗ compensation_of d.cutoff) n).increment;
+      increment = (interpolator_new s.delay (delay ⊗ compensation_of d.cutoff) n).increment;
       stretch_point = amount ⊗ (c2 ⊖ amount) ⊗ c0·225;
       stretch_correction = clamp_f (c160 ⊘ s.sample_rate_hz ⊗ delay) c1 c2·1;
       noise_amount = noise_amount_of amount;
@@ -118,64 +118,64 @@ params_of s f0 amount d n =
     }
 
 -- the state with the phase snapped and the damping filter set
-unfoldable pub tuned : String → Float → Damping → String
-tuned s f0 d = record s { iir_damping_filter = svf_setFQ s.iir_damping_filter d.f c0·5 Fast; src_phase = snap (ratio_of f0) s.src_phase }
+unfoldable pub tune : String → Float → Damping → String
+tune s f0 d = record s { iir_damping_filter = svf_set_f_q s.iir_damping_filter d.f c0·5 Fast; src_phase = snap (ratio_of f0) s.src_phase }
 
 -- both
-unfoldable pub prepared_of : String → StringNonLinearity → Float → Float → Float → ℕ → Prepared
-prepared_of s shape f0 brightness damping n =
+unfoldable pub prepare : String → StringNonLinearity → Float → Float → Float → ℕ → Prepared
+prepare s shape f0 brightness damping n =
     let d = damping_of f0 brightness damping in
-    record { string = tuned s f0 d; block = record { shape = shape; params = params_of s f0 (amount_of shape) d n } }
+    record { string = tune s f0 d; block = record { shape = shape; params = params_of s f0 (amount_of shape) d n } }
 
 -- ---- a string step
 
 -- the delay and the dispersion noise: the dispersion draws a word, the bridge none
-unfoldable pub bent : StringNonLinearity → Params → Float → Float → Float → Draw (Float × Float)
-bent (CurvedBridge a) p delay noise bridge = ret (delay ⊗ (c1 ⊖ bridge ⊗ p.bridge_curving), noise)
-bent (Dispersion a) p delay noise bridge =
-    ask (λ w. let n = one_pole noise (float_of w ⊖ c0·5) p.noise_filter in ret (delay ⊗ (c1 ⊕ n ⊗ p.noise_amount), n))
+unfoldable pub bend : StringNonLinearity → Params → Float → Float → Float → Draw (Float × Float)
+bend (CurvedBridge a) p delay noise bridge = ret (delay ⊗ (c1 ⊖ bridge ⊗ p.bridge_curving), noise)
+bend (Dispersion a) p delay noise bridge =
+    ask (λ w. let n = one_pole noise (get_float w ⊖ c0·5) p.noise_filter in ret (delay ⊗ (c1 ⊕ n ⊗ p.noise_amount), n))
 
 -- the string line read by the cubic
-unfoldable pub plain : String → Float → List Float → Heard × List Float
-plain s delay lines = (record { s = read_hermite (part 0 1024 lines) s.string delay; stretch = s.stretch }, lines)
+unfoldable pub read_plain : String → Float → List Float → Heard × List Float
+read_plain s delay lines = (record { s = read_hermite (part 0 1024 lines) s.string delay; stretch = s.stretch }, lines)
 
 -- the string line read in a straight line, and passed through the stretch line
-unfoldable pub allpassed : String → Float → Float → Float → List Float → Heard × List Float
-allpassed s main ap gain lines =
-    let x = read_frac (part 0 1024 lines) s.string main in
-    let q = within 1024 256 (λ line. allpass_of line s.stretch x (whole_part ap) gain) lines in
+unfoldable pub read_allpass : String → Float → Float → Float → List Float → Heard × List Float
+read_allpass s main ap gain lines =
+    let x = read_with_delay_frac (part 0 1024 lines) s.string main in
+    let q = on_part 1024 256 (λ line. allpass line s.stretch x (whole_part ap) gain) lines in
     (record { s = q.0.out; stretch = q.0.write_ptr }, q.1)
 
-unfoldable pub main_of : Params → Float → Float
-main_of p delay = delay ⊖ delay ⊗ p.stretch_point ⊗ (c0·408 ⊖ p.stretch_point ⊗ c0·308) ⊗ p.stretch_correction
+unfoldable pub main_delay : Params → Float → Float
+main_delay p delay = delay ⊖ delay ⊗ p.stretch_point ⊗ (c0·408 ⊖ p.stretch_point ⊗ c0·308) ⊗ p.stretch_correction
 
 -- the all-pass is used only if both delays are >= 4
-unfoldable pub stretched : StringNonLinearity → Params → Float → Bool
-stretched (CurvedBridge a) p delay = false
-stretched (Dispersion a) p delay = le c4 (delay ⊗ p.stretch_point) && le c4 (main_of p delay)
+unfoldable pub stretches : StringNonLinearity → Params → Float → Bool
+stretches (CurvedBridge a) p delay = false
+stretches (Dispersion a) p delay = le c4 (delay ⊗ p.stretch_point) && le c4 (main_delay p delay)
 
 -- what is read off the lines
-unfoldable pub heard : StringNonLinearity → Params → String → Float → List Float → Heard × List Float
-heard shape p s delay lines =
-    cond (stretched shape p delay) (allpassed s (main_of p delay) (delay ⊗ p.stretch_point) p.ap_gain lines) (plain s delay lines)
+unfoldable pub hear : StringNonLinearity → Params → String → Float → List Float → Heard × List Float
+hear shape p s delay lines =
+    cond (stretches shape p delay) (read_allpass s (main_delay p delay) (delay ⊗ p.stretch_point) p.ap_gain lines) (read_plain s delay lines)
 
 -- the bridge's curve after a sample
-unfoldable pub bridged : StringNonLinearity → Float → Float → Float
-bridged (CurvedBridge a) s bridge =
+unfoldable pub curve : StringNonLinearity → Float → Float → Float
+curve (CurvedBridge a) s bridge =
     let value = abs_f s ⊖ c0·025 in
     (abs_f value ⊕ value) ⊗ cond (lt c0 s) c1 (neg c1·5)
-bridged (Dispersion a) s bridge = bridge
+curve (Dispersion a) s bridge = bridge
 
 -- a step: the state and the lines after it
-unfoldable pub step_of : StringNonLinearity → Params → Float → String × List Float → Draw (String × List Float)
-step_of shape p x s =
+unfoldable pub step : StringNonLinearity → Params → Float → String × List Float → Draw (String × List Float)
+step shape p x s =
     let t = s.0 in
     let delay = t.delay ⊕ p.increment in
-    bent shape p delay t.dispersion_noise t.curved_bridge >>= λ b.
-    let h = heard shape p t b.0 s.1 in
-    let dc = dc_of t.dc_blocker (h.0.s ⊕ clamp_f x (neg c20) c20) in
-    let o = svf_of t.iir_damping_filter dc.y in
-    let l = within 0 1024 (λ line. written line t.string o.1) h.1 in
+    bend shape p delay t.dispersion_noise t.curved_bridge >>= λ b.
+    let h = hear shape p t b.0 s.1 in
+    let dc = dc_process_sample t.dc_blocker (h.0.s ⊕ clamp_f x (neg c20) c20) in
+    let o = svf_process t.iir_damping_filter dc.y in
+    let l = on_part 0 1024 (λ line. line_write line t.string o.1) h.1 in
     ret (
       record t {
         string = l.0;
@@ -184,7 +184,7 @@ step_of shape p x s =
         dc_blocker = dc;
         delay = delay;
         dispersion_noise = b.1;
-        curved_bridge = bridged shape h.0.s t.curved_bridge;
+        curved_bridge = curve shape h.0.s t.curved_bridge;
         out_sample_0 = o.1;
         out_sample_1 = t.out_sample_0;
       },
@@ -194,20 +194,20 @@ step_of shape p x s =
 -- ---- the loop
 
 -- a frame moves the phase, and steps where it passes 1
-unfoldable pub moved : StringNonLinearity → Params → Float → String × List Float → Draw (String × List Float)
-moved shape p x s =
+unfoldable pub advance : StringNonLinearity → Params → Float → String × List Float → Draw (String × List Float)
+advance shape p x s =
     let phase = s.0.src_phase ⊕ p.src_ratio in
-    cond (lt c1 phase) (step_of shape p x (record s.0 { src_phase = phase ⊖ c1 }, s.1)) (ret (record s.0 { src_phase = phase }, s.1))
+    cond (lt c1 phase) (step shape p x (record s.0 { src_phase = phase ⊖ c1 }, s.1)) (ret (record s.0 { src_phase = phase }, s.1))
 
 -- the last two samples, crossfaded, are added to the output
-unfoldable pub mixed : Float → String → Float
-mixed y s = y ⊕ crossfade_of s.out_sample_1 s.out_sample_0 s.src_phase
+unfoldable pub mix : Float → String → Float
+mix y s = y ⊕ crossfade s.out_sample_1 s.out_sample_0 s.src_phase
 
-abbrev pub frame_of : StringNonLinearity → Params → String × List Float → Float → Float → Draw ((String × List Float) × Float)
-frame_of shape p s x y = moved shape p x s >>= λ t. ret (t, mixed y t.0)
+abbrev pub frame : StringNonLinearity → Params → String × List Float → Float → Float → Draw ((String × List Float) × Float)
+frame shape p s x y = advance shape p x s >>= λ t. ret (t, mix y t.0)
 
 -- String::process, of the non-linearity chosen
-unfoldable pub strung : StringNonLinearity → Float → Float → Float → String × List Float → List Float → List Float → Draw ((String × List Float) × List Float)
-strung shape f0 brightness damping s xs ys =
-    let b = prepared_of s.0 shape f0 brightness damping (length ys) in
-    frames (frame_of b.block.shape b.block.params) (b.string, s.1) xs ys
+unfoldable pub process : StringNonLinearity → Float → Float → Float → String × List Float → List Float → List Float → Draw ((String × List Float) × List Float)
+process shape f0 brightness damping s xs ys =
+    let b = prepare s.0 shape f0 brightness damping (length ys) in
+    frames (frame b.block.shape b.block.params) (b.string, s.1) xs ys

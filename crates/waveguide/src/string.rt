@@ -2,9 +2,9 @@
 ghost use Rattle.std.specs.Prelude.{◌≡◌, ◌+◌, ◌≤◌, ◌<◌, ◌^◌, length};
 ghost use Rattle.ground.specs.Draw.{run, Ran, counted};
 ghost use Rattle.ground.specs.Frames.{frames};
-ghost use Rattle.waveguide.specs.String.{string_new, string_reset, string_init, non_linearity, amount_of, delay_of, snap, damping_of, compensation_of, noise_amount_of, params_of, tuned, prepared_of, bent, plain, allpassed, main_of, stretched, heard, bridged, step_of, moved, mixed, frame_of, strung};
+ghost use Rattle.waveguide.specs.String.{string_new, string_reset, string_init, non_linearity, amount_of, delay_of, snap, damping_of, compensation_of, noise_amount_of, params_of, tune, prepare, bend, read_plain, read_allpass, main_delay, stretches, hear, curve, step, advance, mix, frame, process};
 ghost use Rattle.waveguide.specs.Kept.{Good, words_of, words_at};
-ghost use Rattle.waveguide.specs.Underway.{noise_after, Ahead, guess_of, guess_after, guess_at, begun};
+ghost use Rattle.waveguide.specs.Underway.{noise_after, Ahead, guess_of, guess_after, guess_at, begin};
 
 use utils::filter::{DcBlocker, FrequencyApproximation, Svf};
 
@@ -136,9 +136,9 @@ impl StringNonLinearity {
     }
 
     // The bridge's curve after a sample.
-    #[tactic(auto, unfolding(crate::specs::String::bridged))]
+    #[tactic(auto, unfolding(crate::specs::String::curve))]
     fn curve(self, s: f32, bridge: f32) -> f32
-        ensures { result ≡ bridged self s bridge }
+        ensures { result ≡ curve self s bridge }
     {
         match self {
             StringNonLinearity::CurvedBridge(_) => {
@@ -235,9 +235,9 @@ fn params_of(s: String, f0: f32, amount: f32, d: Damping, n: usize) -> Params
 }
 
 // A frame's output.
-#[tactic(auto, unfolding(crate::specs::String::mixed))]
+#[tactic(auto, unfolding(crate::specs::String::mix))]
 pub fn mix(y: f32, s: String) -> f32
-    ensures { result ≡ mixed y s }
+    ensures { result ≡ mix y s }
 {
     y + utils::crossfade(s.out_sample_1, s.out_sample_0, s.src_phase)
 }
@@ -294,10 +294,10 @@ impl String {
 
     // The string line read by the cubic.
     #[inline(always)]
-    #[tactic(auto, unfolding(crate::specs::String::plain, ground::specs::Part::part))]
+    #[tactic(auto, unfolding(crate::specs::String::read_plain, ground::specs::Part::part))]
     fn read_plain(self, lines: &[f32], delay: f32, guess: usize) -> Heard
         requires { Good (self, lines.now) }
-        ensures { (result, lines.now) ≡ plain self delay lines.now }
+        ensures { (result, lines.now) ≡ read_plain self delay lines.now }
     {
         Heard {
             s: utils::delay_line::read_hermite_near(&lines[0..1024], self.string, delay, guess),
@@ -307,10 +307,10 @@ impl String {
 
     // The string line read in a straight line, and passed through the stretch line.
     #[inline(always)]
-    #[tactic(auto, unfolding(crate::specs::String::allpassed, ground::specs::Part::part, ground::specs::Part::put))]
+    #[tactic(auto, unfolding(crate::specs::String::read_allpass, ground::specs::Part::part, ground::specs::Part::put))]
     fn read_allpass(self, lines: &mut [f32], main: f32, ap: f32, gain: f32) -> Heard
         requires { Good (self, lines.old) }
-        ensures { (result, lines.new) ≡ allpassed self main ap gain lines.old }
+        ensures { (result, lines.new) ≡ read_allpass self main ap gain lines.old }
     {
         let x = utils::delay_line::read_with_delay_frac(&lines[0..1024], self.string, main);
         let delay = ground::floats::whole_part(ap);
@@ -329,9 +329,9 @@ impl String {
     }
 
     // The state with the phase snapped and the damping filter set.
-    #[tactic(auto, unfolding(crate::specs::String::tuned, crate::specs::String::ratio_of))]
+    #[tactic(auto, unfolding(crate::specs::String::tune, crate::specs::String::ratio_of))]
     fn tune(self, f0: f32, d: Damping) -> String
-        ensures { result ≡ tuned self f0 d }
+        ensures { result ≡ tune self f0 d }
     {
         let filter = self.iir_damping_filter;
         String {
@@ -342,7 +342,7 @@ impl String {
     }
 
     // A string tuned for a block of n frames, and what the block's knobs come to.
-    #[tactic(auto, unfolding(crate::specs::String::prepared_of))]
+    #[tactic(auto, unfolding(crate::specs::String::prepare))]
     pub fn prepare(
         self,
         shape: StringNonLinearity,
@@ -352,7 +352,7 @@ impl String {
         n: usize,
     ) -> Prepared
         requires { n ≤ 2 ^ 24 }
-        ensures { result ≡ prepared_of self shape f0 brightness damping n }
+        ensures { result ≡ prepare self shape f0 brightness damping n }
     {
         let d = damping_of(f0, brightness, damping);
         let params = params_of(self, f0, shape.amount(), d, n);
@@ -363,7 +363,7 @@ impl String {
 
     // A block of the string. The knobs come one by one, as in the Rust: two of them are raised, and a struct of the three would be made for this call alone.
     // At most 2^24 frames, which an f32 counts exactly: a buffer that a caller lends has no type that says so.
-    #[tactic(auto, using(crate::proofs::Blocks::prepared_good), unfolding(crate::specs::String::strung, crate::specs::String::prepared_of))]
+    #[tactic(auto, using(crate::proofs::Blocks::prepared_good), unfolding(crate::specs::String::process, crate::specs::String::prepare))]
     pub fn process(
         self,
         lines: &mut [f32],
@@ -376,7 +376,7 @@ impl String {
         out: &mut [f32],
     ) -> Played
         requires { Good (self, lines.old) × (length out.old ≤ 2 ^ 24) }
-        ensures { run (counted (strung shape f0 brightness damping (self, lines.old) in_.now out.old)) word
+        ensures { run (counted (process shape f0 brightness damping (self, lines.old) in_.now out.old)) word
             ≡ record { value = (((result.string, lines.new), out.new), result.drawn); word = result.word } }
     {
         let b = self.prepare(shape, f0, brightness, damping, out.len());
@@ -396,10 +396,10 @@ impl Block {
 
     // The delay and the dispersion noise of a step. That noise was worked out a step ago, so that the line's reading need not wait for it.
     #[inline(always)]
-    #[tactic(auto, unfolding(crate::specs::String::bent, crate::specs::Underway::guess_of, crate::specs::Underway::noise_after))]
+    #[tactic(auto, unfolding(crate::specs::String::bend, crate::specs::Underway::guess_of, crate::specs::Underway::noise_after))]
     fn bend(self, delay: f32, noise: f32, next_noise: f32, bridge: f32, word: u32) -> Bent
         requires { next_noise ≡ noise_after self.params noise word }
-        ensures { (run (bent self.shape self.params delay noise bridge) word ≡ record { value = (result.delay, result.dispersion_noise); word = result.word })
+        ensures { (run (bend self.shape self.params delay noise bridge) word ≡ record { value = (result.delay, result.dispersion_noise); word = result.word })
             × (result.next_noise ≡ noise_after self.params result.dispersion_noise result.word) × (result.guess ≡ guess_of self.shape result.delay) }
     {
         match self.shape {
@@ -427,18 +427,18 @@ impl Block {
     }
 
     // The delay of the string line beside an all-pass delay.
-    #[tactic(auto, unfolding(crate::specs::String::main_of))]
+    #[tactic(auto, unfolding(crate::specs::String::main_delay))]
     fn main_delay(self, delay: f32) -> f32
-        ensures { result ≡ main_of self.params delay }
+        ensures { result ≡ main_delay self.params delay }
     {
         let p = self.params;
         delay - delay * p.stretch_point * (0.408 - p.stretch_point * 0.308) * p.stretch_correction
     }
 
     // Whether the all-pass is used: by the dispersion, if both delays are at least 4.
-    #[tactic(auto, unfolding(crate::specs::String::stretched))]
+    #[tactic(auto, unfolding(crate::specs::String::stretches))]
     fn stretches(self, delay: f32) -> bool
-        ensures { result ≡ stretched self.shape self.params delay }
+        ensures { result ≡ stretches self.shape self.params delay }
     {
         match self.shape {
             StringNonLinearity::CurvedBridge(_) => false,
@@ -450,10 +450,10 @@ impl Block {
 
     // What is read off the lines at a delay.
     #[inline(always)]
-    #[tactic(auto, unfolding(crate::specs::String::heard))]
+    #[tactic(auto, unfolding(crate::specs::String::hear))]
     fn hear(self, lines: &mut [f32], s: String, delay: f32, guess: usize) -> Heard
         requires { Good (s, lines.old) }
-        ensures { (result, lines.new) ≡ heard self.shape self.params s delay lines.old }
+        ensures { (result, lines.new) ≡ hear self.shape self.params s delay lines.old }
     {
         if self.stretches(delay) {
             let p = self.params;
@@ -472,7 +472,7 @@ impl Block {
     #[inline(always)]
     fn step(self, lines: &mut [f32], v: Underway, in_sample: f32) -> Underway
         requires { Good (v.string, lines.old) × Ahead self.params v × (v.drawn < 2 ^ 63) }
-        ensures { (run (step_of self.shape self.params in_sample (v.string, lines.old)) v.word ≡ record { value = (result.string, lines.new); word = result.word })
+        ensures { (run (step self.shape self.params in_sample (v.string, lines.old)) v.word ≡ record { value = (result.string, lines.new); word = result.word })
             × Ahead self.params result × (result.drawn ≡ v.drawn + words_of self.shape) × (result.guess ≡ guess_after self.shape self.params v) }
     {
         let t = v.string;
@@ -517,10 +517,10 @@ impl Block {
     }
 
     #[inline(always)]
-    #[tactic(auto, unfolding(crate::specs::String::moved))]
+    #[tactic(auto, unfolding(crate::specs::String::advance))]
     pub fn advance(self, lines: &mut [f32], v: Underway, in_sample: f32) -> Underway
         requires { Good (v.string, lines.old) × Ahead self.params v × (v.drawn < 2 ^ 63) }
-        ensures { (run (moved self.shape self.params in_sample (v.string, lines.old)) v.word ≡ record { value = (result.string, lines.new); word = result.word })
+        ensures { (run (advance self.shape self.params in_sample (v.string, lines.old)) v.word ≡ record { value = (result.string, lines.new); word = result.word })
             × Ahead self.params result × (result.drawn ≡ v.drawn + words_at self.shape self.params.src_ratio v.string.src_phase) × (result.guess ≡ guess_at self.shape self.params v) }
     {
         let phase = v.string.src_phase + self.params.src_ratio;
@@ -534,9 +534,9 @@ impl Block {
     }
 
     // A string as its loop begins.
-    #[tactic(auto, unfolding(crate::specs::Underway::begun))]
+    #[tactic(auto, unfolding(crate::specs::Underway::begin))]
     pub fn begin(self, string: String, word: u32) -> Underway
-        ensures { result ≡ begun self.params string word }
+        ensures { result ≡ begin self.params string word }
     {
         Underway {
             string,
@@ -557,7 +557,7 @@ impl Block {
         out: &mut [f32],
     ) -> Played
         requires { Good (s, lines.old) × (length out.old ≤ 2 ^ 24) }
-        ensures { run (counted (frames (frame_of self.shape self.params) (s, lines.old) in_.now out.old)) word
+        ensures { run (counted (frames (frame self.shape self.params) (s, lines.old) in_.now out.old)) word
             ≡ record { value = (((result.string, lines.new), out.new), result.drawn); word = result.word } }
     {
         let mut u = self.begin(s, word);

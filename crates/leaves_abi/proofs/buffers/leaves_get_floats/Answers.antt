@@ -5,13 +5,13 @@ use Prim.Native.Nat.{ℕ}
 use native.Mathlib.Omega.{arith}
 use lib.Ieee.{Float, nan}
 use Rattle.ground.specs.Draw.{ret, run}
-use Rattle.ground.specs.Random.{next, float_of}
+use Rattle.ground.specs.Random.{get_word, get_float}
 use Rattle.ground.proofs.Frames.{frames_begin, frames_turn, frames_then}
 use Rattle.noise.specs.Excitation.{fill_step}
 use Rattle.leaves_abi.specs.Buffers.{drawn_float}
 use Rattle.leaves_abi.proofs.buffers.leaves_get_floats.Goals as goal
 
-drew : (w v : ℕ) (u y x : Float) → v ≡ next w → u ≡ float_of v → run (fill_step drawn_float tt x y) w ≡ record { value = (tt, u); word = v }
+drew : (w v : ℕ) (u y x : Float) → v ≡ get_word w → u ≡ get_float v → run (fill_step drawn_float tt x y) w ≡ record { value = (tt, u); word = v }
 drew w v u y x e f = rw (f, e)
 
 pub loop-u-init : goal.loop-u-init

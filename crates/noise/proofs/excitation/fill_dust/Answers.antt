@@ -4,7 +4,7 @@ use lib.Ieee.{nan}
 use Rattle.ground.specs.Draw.{ret}
 use Rattle.ground.proofs.Draw.{run_then}
 use Rattle.ground.proofs.Frames.{frames_begin, frames_turn, frames_then}
-use Rattle.noise.specs.Dust.{dust_of}
+use Rattle.noise.specs.Dust.{dust}
 use Rattle.noise.specs.Excitation.{dust_sample, dusted}
 use Rattle.noise.proofs.excitation.fill_dust.Goals as goal
 
@@ -14,7 +14,7 @@ loop-sample-init c = frames_begin
 pub loop-sample-preserved : goal.loop-sample-preserved
 loop-sample-preserved c =
     let l = c.loop-sample in
-    frames_turn nan nan l.invariant (omega arith) (run_then (dust_sample c.args.f c.args.gain c.args.accent) _ l.w (run_then (dust_of c.args.f) _ l.w c.dust-u.ensures))
+    frames_turn nan nan l.invariant (omega arith) (run_then (dust_sample c.args.f c.args.gain c.args.accent) _ l.w (run_then (dust c.args.f) _ l.w c.dust-u.ensures))
 
 pub returns : goal.returns
 unfolding dusted

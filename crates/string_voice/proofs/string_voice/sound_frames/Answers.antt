@@ -11,10 +11,10 @@ use Rattle.ground.specs.Frames.{frames}
 use Rattle.ground.proofs.Draw.{run_then}
 use Rattle.ground.proofs.Frames.{frames_begin, frames_turn, frames_good, length_scan, scan_turn, scan_end}
 use Rattle.ground.proofs.Lead.{lead_begin, lead_turn, lead_puts, lead_end}
-use Rattle.utils.specs.Filter.{svf_step, svf_buffer}
+use Rattle.utils.specs.Filter.{svf_step, svf_process_buffer}
 use Rattle.noise.proofs.OneAhead.{ahead_step, ahead_end}
 use Rattle.waveguide.specs.declared.string.String.{String}
-use Rattle.waveguide.specs.String.{moved, frame_of}
+use Rattle.waveguide.specs.String.{advance, frame}
 use Rattle.waveguide.specs.Kept.{Good}
 use Rattle.waveguide.proofs.Steps.{begun_ahead, begun_drawn, begun_good, begun_run, frame_good, words_to_few, words_turn, words_end}
 use Rattle.string_voice.proofs.OneLoop.{filter_of, all_frames}
@@ -58,7 +58,7 @@ loop-i-preserved c =
     let l = c.loop-i in
     let v = l.invariant in
     let z = v.5 in
-    let xs = (svf_buffer a.f a.b.now.temp.now a.b.now.temp_2.now).1 in
+    let xs = (svf_process_buffer a.f a.b.now.temp.now a.b.now.temp_2.now).1 in
     let lt : l.i < length a.b.now.temp.now = omega (arith, z.all, c.loop-i-test) in
     let within : l.i < min (length a.b.now.temp.now) (length a.b.now.temp_2.now) = omega (arith, z, lt) in
     let x = lead_puts nan v.0 within in
@@ -67,7 +67,7 @@ loop-i-preserved c =
     let good = begun_good a.block.params a.s a.word _ b.ensures a.lines.now c.requires.0 in (
       lead_turn nan v.0 within (ahead_step filter_of l.ahead.filter a.b.now.temp.now (l.i + 1) q) (ahead_end filter_of l.ahead.filter a.b.now.temp.now (l.i + 1) q),
       scan_turn nan nan v.1 (omega (arith, z, lt)) (ap (λ (x : Float). (tt, get_or l.aux l.i nan ⊕ x)) x),
-      frames_turn nan nan v.2 (omega (arith, z, lt)) (rw (← x, c.mix.ensures) (run_then (moved a.block.shape a.block.params _ (l.u.string, l.lines)) _ l.u.word m.0)),
+      frames_turn nan nan v.2 (omega (arith, z, lt)) (rw (← x, c.mix.ensures) (run_then (advance a.block.shape a.block.params _ (l.u.string, l.lines)) _ l.u.word m.0)),
       m.1,
       words_turn a.block.shape a.block.params (b.result.string, a.lines.now) xs a.b.now.out.now b.result.word good l.i l.u.drawn _ v.2 (omega (arith, z, lt)) v.4 m.2,
       z,
@@ -80,11 +80,11 @@ returns-clause-all c =
     let l = c.loop-i in
     let v = l.invariant in
     let z = v.5 in
-    let xs = (svf_buffer a.f a.b.now.temp.now a.b.now.temp_2.now).1 in
+    let xs = (svf_process_buffer a.f a.b.now.temp.now a.b.now.temp_2.now).1 in
     let good = begun_good a.block.params a.s a.word _ b.ensures a.lines.now c.requires.0 in
     let past : length a.b.now.temp.now ≤ l.i = omega (arith, z.all, c.loop-i-test) in
     all_frames a.block.shape a.block.params a.f (a.s, a.lines.now) a.b.now.temp.now a.b.now.temp_2.now a.b.now.out.now a.b.now.aux.now a.word
     (lead_end v.0 past)
     (ap (λ (q : Unit {0} × List Float). q.1) (scan_end v.1 (omega (arith, z, c.loop-i-test))))
-    (begun_run a.block.params a.s a.word b.result b.ensures (λ (t : String). counted (frames (frame_of a.block.shape a.block.params) (t, a.lines.now) xs a.b.now.out.now))
+    (begun_run a.block.params a.s a.word b.result b.ensures (λ (t : String). counted (frames (frame a.block.shape a.block.params) (t, a.lines.now) xs a.b.now.out.now))
     (words_end a.block.shape a.block.params (b.result.string, a.lines.now) xs a.b.now.out.now b.result.word good l.i l.u.drawn v.2 (omega (arith, z, c.loop-i-test)) v.4))

@@ -3,12 +3,12 @@ use mathlib.Core.Path.{ap}
 use Prim.Native.Nat.{◌+◌, ◌%◌}
 use native.Mathlib.Omega.{arith}
 use lib.ListN.{length}
-use Rattle.utils.specs.DelayLine.{allpass_of}
+use Rattle.utils.specs.DelayLine.{allpass}
 use Rattle.utils.proofs.DelayLine.{tap_round}
 use Rattle.utils.proofs.delay_line.allpass.Goals as goal
 
 pub returns : goal.returns
-unfolding allpass_of
+unfolding allpass
 returns c =
     let a = c.args in
     rw (

@@ -6,7 +6,7 @@ use Rattle.ground.specs.Frames.{frames}
 use Rattle.ground.proofs.Draw.{run_then}
 use Rattle.ground.proofs.Frames.{frames_begin, frames_turn, frames_good}
 use Rattle.waveguide.specs.declared.string.String.{String}
-use Rattle.waveguide.specs.String.{moved, frame_of}
+use Rattle.waveguide.specs.String.{advance, frame}
 use Rattle.waveguide.specs.Kept.{Good}
 use Rattle.waveguide.proofs.Steps.{begun_ahead, begun_drawn, begun_good, begun_run, frame_good, words_to_few, words_turn, words_end}
 use Rattle.waveguide.proofs.string.Block.run_frames.Goals as goal
@@ -36,7 +36,7 @@ loop-i-preserved c =
     let b = c.begin-u in
     let l = c.loop-i in
     let m = c.advance-u.ensures in (
-      frames_turn nan nan l.invariant.0 (omega (arith, c.loop-i-test, c.min-i-end.ensures)) (rw c.mix.ensures (run_then (moved a.self.shape p _ (l.u.string, l.lines)) _ l.u.word m.0)),
+      frames_turn nan nan l.invariant.0 (omega (arith, c.loop-i-test, c.min-i-end.ensures)) (rw c.mix.ensures (run_then (advance a.self.shape p _ (l.u.string, l.lines)) _ l.u.word m.0)),
       m.1,
       words_turn a.self.shape p (b.result.string, a.lines.now) a.in_.now a.out.now b.result.word (begun_good p a.s a.word _ b.ensures a.lines.now c.requires.0) l.i l.u.drawn _ l.invariant.0 (omega (arith, l.invariant.0.within)) l.invariant.2 m.2,
     )
@@ -47,5 +47,5 @@ returns c =
     let p = a.self.params in
     let b = c.begin-u in
     let l = c.loop-i in
-    begun_run p a.s a.word b.result b.ensures (λ (t : String). counted (frames (frame_of a.self.shape p) (t, a.lines.now) a.in_.now a.out.now))
+    begun_run p a.s a.word b.result b.ensures (λ (t : String). counted (frames (frame a.self.shape p) (t, a.lines.now) a.in_.now a.out.now))
     (words_end a.self.shape p (b.result.string, a.lines.now) a.in_.now a.out.now b.result.word (begun_good p a.s a.word _ b.ensures a.lines.now c.requires.0) l.i l.u.drawn l.invariant.0 (omega arith) l.invariant.2)
