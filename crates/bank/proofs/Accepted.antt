@@ -9,6 +9,7 @@ use lib.ListN.{length, get_or}
 use lib.Ieee.{Float}
 use borrow.Author.Tests.{eqb-true, eqb-false, ltb-false, leb-false, not-false}
 use Rattle.std.specs.Prelude.{Result, Ok}
+use Rattle.ground.specs.F32.{c0, c0·5, c1}
 use Rattle.ground.specs.Each.{Each}
 use Rattle.ground.proofs.Bools.{or_false, and_true}
 use Rattle.noise.specs.declared.excitation.Knobs.{Knobs}
@@ -21,7 +22,7 @@ use Rattle.slots.specs.declared.slots.Slot.{Slot}
 use Rattle.slots.specs.declared.slots.Bank.{Bank}
 use Rattle.slots.specs.Slots.{no_string, empty_slot, slot_at}
 use Rattle.slots.specs.Calls.{Bufs, Act, opening, render}
-use Rattle.slots.specs.Table.{Call, Check, ◌⇐◌, first, alike, checks, knob_checks, verdict, bad_slot, bad_slots, bad}
+use Rattle.slots.specs.Table.{Call, Check, ◌⇐◌, first, in_range, lowest, alike, checks, verdict, bad_slot, bad_slots, bad}
 use Rattle.bank.specs.World.{Ready}
 use Rattle.bank.proofs.Moves.{decided}
 
@@ -117,12 +118,34 @@ unfolding checks
 asked kind zero rate e = absurd (true≢false (spared R.Kind true _ e).0)
 asked kind (suc k) rate e = omega arith
 
--- what the checks of a render leave: its slot is not empty, and its buffers have one length, of at most 4,096
+-- the checks of a render, none of which applies
+pub record Spared (kind : ℕ) (k : Knobs) (u : Bufs) : Type 0 where
+  pub full : eqb kind 0 ≡ false
+  pub lengths : not (alike u) ≡ false
+  pub short : ltb 4096 (length u.temp) ≡ false
+  pub f0 : not (in_range lowest c0·5 k.f0) ≡ false
+  pub accent : not (in_range c0 c1 k.accent) ≡ false
+  pub structure : not (in_range c0 c1 k.structure) ≡ false
+  pub brightness : not (in_range c0 c1 k.brightness) ≡ false
+  pub damping : not (in_range c0 c1 k.damping) ≡ false
+
+-- what they leave: its slot is not empty, and its buffers have one length, of at most 4,096
 module _ (kind : ℕ) (k : Knobs) (u : Bufs) (e : first (checks kind (render k u)) ≡ Ok tt) where
-  -- of each in turn: the slot, the lengths, the longest block, and the five knobs
-  pub render_spared : Each (λ c. c.applies ≡ false) (R.Empty ⇐ eqb kind 0 ∷ R.Lengths ⇐ not (alike u) ∷ R.TooLong ⇐ ltb 4096 (length u.temp) ∷ knob_checks k)
+  pub render_spared : Spared kind k u
   unfolding checks
-  render_spared = all_spared (checks kind (render k u)) e
+  render_spared =
+      let c = all_spared (checks kind (render k u)) e in
+      let knobs = c.1.1.1 in
+      record {
+        full = c.0;
+        lengths = c.1.0;
+        short = c.1.1.0;
+        f0 = knobs.0;
+        accent = knobs.1.0;
+        structure = knobs.1.1.0;
+        brightness = knobs.1.1.1.0;
+        damping = knobs.1.1.1.1.0;
+      }
 
   pub alike_lent : Alike u.temp u.temp2 u.out u.aux
   unfolding alike
@@ -131,7 +154,7 @@ module _ (kind : ℕ) (k : Knobs) (u : Bufs) (e : first (checks kind (render k u
       let t2 = eqb (length u.temp2) n in
       let o = eqb (length u.out) n in
       let a = eqb (length u.aux) n in
-      let l = and_true (t2 && o) a (not-false (alike u) render_spared.1.0) in
+      let l = and_true (t2 && o) a (not-false (alike u) render_spared.lengths) in
       let m = and_true t2 o l.0 in
       record {
         temp2_is = eqb-true (length u.temp2) n m.0;
@@ -142,10 +165,10 @@ module _ (kind : ℕ) (k : Knobs) (u : Bufs) (e : first (checks kind (render k u
   short : length u.out ≤ 4096
   short =
       let n = length u.temp in
-      let h : n ≤ 4096 = ltb-false 4096 n render_spared.1.1.0 in
+      let h : n ≤ 4096 = ltb-false 4096 n render_spared.short in
       omega (arith, alike_lent.out_is, h)
 
   pub ready : (x : Slot) (mem : List Float) (slot : ℕ) → x.kind ≡ kind → Sound x → length mem ≡ 10240 → slot < 8 → Ready x mem slot u.out
   ready x mem slot ek s size in8 =
-      let full : kind ≡ 0 → ⊥ = eqb-false kind 0 render_spared.0 in
+      let full : kind ≡ 0 → ⊥ = eqb-false kind 0 render_spared.full in
       record { full = omega arith; known = s.known; voice = record { slot_within = in8; size = size; string = s.string; stretch = s.stretch; short = short } }

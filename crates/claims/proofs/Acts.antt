@@ -183,5 +183,5 @@ act_law reset v o e i p = (refl, reset_law v o e)
 act_law (render k b) v o e i p =
     let c = render_spared v.slot.kind k b p in
     render_law v.slot.kind k b v o e (alike_lent v.slot.kind k b p)
-    (f0_in k.f0 (passes_test (in_range lowest c0·5 k.f0) c.1.1.1.0))
-    (knob_in k.structure (passes_test (in_range c0 c1 k.structure) c.1.1.1.1.1.0)) i
+    (f0_in k.f0 (passes_test (in_range lowest c0·5 k.f0) c.f0))
+    (knob_in k.structure (passes_test (in_range c0 c1 k.structure) c.structure)) i

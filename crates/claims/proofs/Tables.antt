@@ -23,11 +23,11 @@ accepted : (bad : Bool) (kind slot : ℕ) (k : Knobs) (b : Bufs) → verdict bad
 accepted bad kind slot k b e =
     let c = render_spared kind k b (begun bad slot kind (render k b) e).rest in
     record {
-      f0 = f0_in k.f0 (passes_test (in_range lowest c0·5 k.f0) c.1.1.1.0);
-      accent = knob_in k.accent (passes_test (in_range c0 c1 k.accent) c.1.1.1.1.0);
-      structure = knob_in k.structure (passes_test (in_range c0 c1 k.structure) c.1.1.1.1.1.0);
-      brightness = knob_in k.brightness (passes_test (in_range c0 c1 k.brightness) c.1.1.1.1.1.1.0);
-      damping = knob_in k.damping (passes_test (in_range c0 c1 k.damping) c.1.1.1.1.1.1.1.0);
+      f0 = f0_in k.f0 (passes_test (in_range lowest c0·5 k.f0) c.f0);
+      accent = knob_in k.accent (passes_test (in_range c0 c1 k.accent) c.accent);
+      structure = knob_in k.structure (passes_test (in_range c0 c1 k.structure) c.structure);
+      brightness = knob_in k.brightness (passes_test (in_range c0 c1 k.brightness) c.brightness);
+      damping = knob_in k.damping (passes_test (in_range c0 c1 k.damping) c.damping);
     }
 
 string_in_tables : (k : Knobs) → Accepted k → StringInTables k
