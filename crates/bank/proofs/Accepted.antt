@@ -105,7 +105,8 @@ pub record Taken (b : Bank) (mem : List Float) (c : Call) : Type 0 where
   pub whole : Whole b mem c.slot
   pub rest : first (checks (slot_at b c.slot).kind c.act) ≡ Ok tt
 
-pub taken : (b : Bank) (mem : List Float) (c : Call) {d : Bool} {n : ℕ} {r : Result (Unit {0}) Reason} → r ≡ verdict d n c → d ≡ bad b mem → n ≡ (slot_at b c.slot).kind → r ≡ Ok tt
+pub taken : (b : Bank) (mem : List Float) (c : Call) {d : Bool} {n : ℕ} {r : Result (Unit {0}) Reason} → r ≡ verdict d n c → d ≡ bad b mem
+    → n ≡ (slot_at b c.slot).kind → r ≡ Ok tt
     → Taken b mem c
 taken b mem c e eb en ev =
     let w = decided c e eb en ev in

@@ -83,7 +83,8 @@ module _ (mem : List Float) (word slot j : ℕ) (wide : j ≡ 1280) where
         counts = q.value.counts;
       }
 
-  ran_moved : (act : Act) (x : Slot) {q : Ran Done} → run (act_def act (record { slot = x; lines = lines_at slot mem })) word ≡ q → acted act slot x word mem ≡ made_by q
+  ran_moved : (act : Act) (x : Slot) {q : Ran Done} → run (act_def act (record { slot = x; lines = lines_at slot mem })) word ≡ q
+      → acted act slot x word mem ≡ made_by q
   unfolding acted
   ran_moved act x e = ap made_by e
 
@@ -111,7 +112,8 @@ module _ (mem : List Float) (word slot j : ℕ) (wide : j ≡ 1280) where
     string_moved s lines counts word' one e =
         let f = rw wide at e in
         let y : Voice = record { slot = x; lines = lines_at slot mem } in
-        ran_moved (render k u) x (ap (λ (n : ℕ). run (render_def n k u y) word) one ∙ run_then (string.render_of k x.string (lines_at slot mem) u.temp u.temp2 u.out u.aux) _ word f)
+        ran_moved (render k u) x (ap (λ (n : ℕ). run (render_def n k u y) word) one
+        ∙ run_then (string.render_of k x.string (lines_at slot mem) u.temp u.temp2 u.out u.aux) _ word f)
         ∙ rw wide
 
     pub modal_moved : (m : ModalVoice) (counts : Counts) (word' : ℕ) → x.kind ≡ 2

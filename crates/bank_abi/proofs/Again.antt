@@ -16,7 +16,9 @@ use Rattle.ground.proofs.Part.{part_put_below, part_put_above}
 use Rattle.slots.specs.declared.slots.Slot.{Slot}
 use Rattle.ground.specs.Each.{Each}
 use Rattle.slot_bytes.specs.Words.{words_in, bytes, each}
-use Rattle.slot_bytes.specs.Layout.{SlotF32, bits, svf_in, dc_in, string_in, voice_in, mode_in, batch_in, modal_in, slot_in, decode_slot, svf_words, dc_words, string_words, voice_words, mode_words, batch_words, float_words, modal_words, slot_words, flag_of, encode_slot, parts, decode_bank, encode_bank, with_bytes}
+use Rattle.slot_bytes.specs.Layout.{SlotF32, bits, svf_in, dc_in, string_in, voice_in, mode_in, batch_in, modal_in, slot_in, decode_slot, svf_words, dc_words}
+use Rattle.slot_bytes.specs.Layout.{string_words, voice_words, mode_words, batch_words, float_words, modal_words, slot_words, flag_of, encode_slot, parts}
+use Rattle.slot_bytes.specs.Layout.{decode_bank, encode_bank, with_bytes}
 use Rattle.bank_abi.specs.Claims.{Numbers, DecodeEncodeBank, is_number, kept, EncodeDecode, Words, Untouched}
 use Rattle.slot_bytes.proofs.Little.{length_slot_bytes}
 use Rattle.slot_bytes.proofs.Stand.{byte_0, byte_1, byte_2, byte_3, word_kept}
@@ -28,7 +30,8 @@ abbrev again : ℕ → ℕ → ℕ
 again k w = cond (is_number k) w (bits (of_bits binary32 w))
 
 words_again : (ws : List ℕ) (h : Bool) → slot_words (slot_in ws h) ≡ tab 98 (λ k. again k (get_or ws k 0))
-unfolding slot_words voice_words string_words svf_words dc_words modal_words mode_words batch_words float_words each slot_in voice_in string_in svf_in dc_in modal_in mode_in batch_in tab
+unfolding slot_words voice_words string_words svf_words dc_words modal_words mode_words batch_words float_words each slot_in voice_in string_in svf_in dc_in
+    modal_in mode_in batch_in tab
 words_again ws h = refl
 
 small_words : (bs : List ℕ) → Each (λ b. b < 256) bs → Each Small (words_in bs)
@@ -73,7 +76,8 @@ encode_decode bs b =
 
 -- ---- bytes are the bytes of their words
 
-split : (n : ℕ) (bs : List ℕ) → length bs ≡ 4 * n + 1 → Each (λ b. b < 256) bs → (length (words_in bs) ≡ n) × (bytes (words_in bs) ++ (get_or bs (4 * n) 0 ∷ []) ≡ bs)
+split : (n : ℕ) (bs : List ℕ) → length bs ≡ 4 * n + 1 → Each (λ b. b < 256) bs → (length (words_in bs) ≡ n)
+    × (bytes (words_in bs) ++ (get_or bs (4 * n) 0 ∷ []) ≡ bs)
 unfolding words_in bytes
 split n [] l h = absurd (omega arith)
 split zero (a ∷ []) l h = (refl, refl)

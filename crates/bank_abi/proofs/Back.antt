@@ -21,7 +21,9 @@ use Rattle.slots.specs.declared.slots.Slot.{Slot}
 use Rattle.ground.specs.Each.{Each}
 use Rattle.ground.proofs.Each as every
 use Rattle.slot_bytes.specs.Words.{word_of, words_in, bytes, each}
-use Rattle.slot_bytes.specs.Layout.{F32, SvfF32, DcF32, StringF32, ModeF32, BatchF32, SlotF32, float_in, svf_in, dc_in, string_in, voice_in, mode_in, batch_in, modal_in, slot_in, decode_slot, bits, svf_words, dc_words, string_words, voice_words, mode_words, batch_words, float_words, modal_words, slot_words, flag_of, encode_slot}
+use Rattle.slot_bytes.specs.Layout.{F32, SvfF32, DcF32, StringF32, ModeF32, BatchF32, SlotF32, float_in, svf_in, dc_in, string_in, voice_in, mode_in, batch_in}
+use Rattle.slot_bytes.specs.Layout.{modal_in, slot_in, decode_slot, bits, svf_words, dc_words, string_words, voice_words, mode_words, batch_words, float_words}
+use Rattle.slot_bytes.specs.Layout.{modal_words, slot_words, flag_of, encode_slot}
 use Rattle.bank_abi.specs.Claims.{Numbers, DecodeEncode}
 use Rattle.slot_bytes.proofs.Little.{length_bytes, length_floats, length_slot}
 
@@ -79,7 +81,8 @@ batch_small : (b : Batch) → BatchF32 b → Each Small (batch_words b)
 unfolding batch_words BatchF32
 batch_small b f =
     small_append (mode_words b.mode_0) (mode_words b.mode_1 ++ (mode_words b.mode_2 ++ mode_words b.mode_3)) (mode_small b.mode_0 f.0)
-    (small_append (mode_words b.mode_1) (mode_words b.mode_2 ++ mode_words b.mode_3) (mode_small b.mode_1 f.1) (small_append (mode_words b.mode_2) (mode_words b.mode_3) (mode_small b.mode_2 f.2) (mode_small b.mode_3 f.3)))
+    (small_append (mode_words b.mode_1) (mode_words b.mode_2 ++ mode_words b.mode_3) (mode_small b.mode_1 f.1)
+    (small_append (mode_words b.mode_2) (mode_words b.mode_3) (mode_small b.mode_2 f.2) (mode_small b.mode_3 f.3)))
 
 float_small : (x : Float) → F32 x → Each Small (float_words x)
 unfolding float_words
@@ -88,9 +91,24 @@ float_small x f = (small x f, tt)
 string_small : (s : String) → s.string < 2 ^ 32 → s.stretch < 2 ^ 32 → StringF32 s → Each Small (string_words s)
 unfolding string_words
 string_small s p q f =
-    let last : Each Small (bits s.delay ∷ bits s.dispersion_noise ∷ bits s.curved_bridge ∷ bits s.src_phase ∷ bits s.out_sample_0 ∷ bits s.out_sample_1 ∷ bits s.sample_rate_hz ∷ []) =
-    (small s.delay f.2, (small s.dispersion_noise f.3, (small s.curved_bridge f.4, (small s.src_phase f.5, (small s.out_sample_0 f.6, (small s.out_sample_1 f.7, (small s.sample_rate_hz f.8, tt))))))) in
-    (p, (q, small_append (svf_words s.iir_damping_filter) _ (svf_small s.iir_damping_filter f.0) (small_append (dc_words s.dc_blocker) _ (dc_small s.dc_blocker f.1) last)))
+    let last : Each Small (bits s.delay ∷ bits s.dispersion_noise ∷ bits s.curved_bridge ∷ bits s.src_phase ∷ bits s.out_sample_0 ∷ bits s.out_sample_1
+    ∷ bits s.sample_rate_hz ∷ []) = (
+      small s.delay f.2,
+      (
+        small s.dispersion_noise f.3,
+        (
+          small s.curved_bridge f.4,
+          (small s.src_phase f.5, (small s.out_sample_0 f.6, (small s.out_sample_1 f.7, (small s.sample_rate_hz f.8, tt)))),
+        ),
+      ),
+    ) in (
+      p,
+      (
+        q,
+        small_append (svf_words s.iir_damping_filter) _ (svf_small s.iir_damping_filter f.0)
+            (small_append (dc_words s.dc_blocker) _ (dc_small s.dc_blocker f.1) last),
+      ),
+    )
 
 slot_small : (s : Slot) → Numbers s → SlotF32 s → Each Small (slot_words s)
 unfolding slot_words voice_words modal_words
@@ -100,15 +118,20 @@ slot_small s n f =
     let left : Each Small (v.remaining_noise_samples ∷ []) = (n.left, tt) in (
       n.kind,
       small_append (voice_words v) (modal_words m)
-          (small_append (svf_words v.excitation_filter) (string_words v.string ++ (v.remaining_noise_samples ∷ [])) (svf_small v.excitation_filter f.0.0) (small_append (string_words v.string) (v.remaining_noise_samples ∷ []) (string_small v.string n.string n.stretch f.0.1) left))
-          (small_append (mode_words m.excitation_filter) (each float_words m.resonator.mode_amplitude ++ each batch_words m.resonator.mode_filters) (mode_small m.excitation_filter f.1.0)
-          (small_append (each float_words m.resonator.mode_amplitude) (each batch_words m.resonator.mode_filters) (small_each float_words F32 float_small m.resonator.mode_amplitude f.1.1.all) (small_each batch_words BatchF32 batch_small m.resonator.mode_filters f.1.2.all))),
+          (small_append (svf_words v.excitation_filter) (string_words v.string ++ (v.remaining_noise_samples ∷ [])) (svf_small v.excitation_filter f.0.0)
+          (small_append (string_words v.string) (v.remaining_noise_samples ∷ []) (string_small v.string n.string n.stretch f.0.1) left))
+          (small_append (mode_words m.excitation_filter) (each float_words m.resonator.mode_amplitude ++ each batch_words m.resonator.mode_filters)
+          (mode_small m.excitation_filter f.1.0)
+          (small_append (each float_words m.resonator.mode_amplitude) (each batch_words m.resonator.mode_filters)
+          (small_each float_words F32 float_small m.resonator.mode_amplitude f.1.1.all)
+          (small_each batch_words BatchF32 batch_small m.resonator.mode_filters f.1.2.all))),
     )
 
 -- ---- the word j of the thing i, where each thing has n words
 
 module _ {A : Type 0} (f : A → List ℕ) (n : ℕ) (sized : (x : A) → length (f x) ≡ n) where
-  each_at : (xs : List A) (rest : List ℕ) (i j k : ℕ) (d : A) → k ≡ n * i + j → i < length xs → j < n → get_or (each f xs ++ rest) k 0 ≡ get_or (f (get_or xs i d)) j 0
+  each_at : (xs : List A) (rest : List ℕ) (i j k : ℕ) (d : A) → k ≡ n * i + j → i < length xs → j < n
+      → get_or (each f xs ++ rest) k 0 ≡ get_or (f (get_or xs i d)) j 0
   unfolding each
   each_at [] rest i j k d ek h g = absurd (omega arith)
   each_at (x ∷ xs) rest zero j k d ek h g =
@@ -175,7 +198,8 @@ module _ (s : Slot) (f : SlotF32 s) where
   unfolding float_words
   amplitude i h =
       let n = f.1.1.many in
-      ap (λ (w : ℕ). of_bits binary32 w) (word_26 i ∙ each_at float_words 1 one amps (each batch_words filters) i 0 i nan (omega arith) (omega arith) (omega arith))
+      ap (λ (w : ℕ). of_bits binary32 w) (word_26 i ∙ each_at float_words 1 one amps (each batch_words filters) i 0 i nan (omega arith) (omega arith)
+      (omega arith))
       ∙ back (get_or amps i nan) (every.each_at F32 amps i nan (omega arith) f.1.1.all)
 
   -- the word j of the batch i
@@ -207,10 +231,22 @@ module _ (s : Slot) (f : SlotF32 s) where
         let b = batch in
         let g = batch_fits in
         λ t. record {
-          mode_0 = record { state_1 = (word_50 0 k (omega arith) (omega arith) ∙ back b.mode_0.state_1 g.0.0) t; state_2 = (word_50 1 (k + 1) (omega arith) (omega arith) ∙ back b.mode_0.state_2 g.0.1) t };
-          mode_1 = record { state_1 = (word_50 2 (k + 2) (omega arith) (omega arith) ∙ back b.mode_1.state_1 g.1.0) t; state_2 = (word_50 3 (k + 2 + 1) (omega arith) (omega arith) ∙ back b.mode_1.state_2 g.1.1) t };
-          mode_2 = record { state_1 = (word_50 4 (k + 4) (omega arith) (omega arith) ∙ back b.mode_2.state_1 g.2.0) t; state_2 = (word_50 5 (k + 4 + 1) (omega arith) (omega arith) ∙ back b.mode_2.state_2 g.2.1) t };
-          mode_3 = record { state_1 = (word_50 6 (k + 6) (omega arith) (omega arith) ∙ back b.mode_3.state_1 g.3.0) t; state_2 = (word_50 7 (k + 6 + 1) (omega arith) (omega arith) ∙ back b.mode_3.state_2 g.3.1) t };
+          mode_0 = record {
+            state_1 = (word_50 0 k (omega arith) (omega arith) ∙ back b.mode_0.state_1 g.0.0) t;
+            state_2 = (word_50 1 (k + 1) (omega arith) (omega arith) ∙ back b.mode_0.state_2 g.0.1) t;
+          };
+          mode_1 = record {
+            state_1 = (word_50 2 (k + 2) (omega arith) (omega arith) ∙ back b.mode_1.state_1 g.1.0) t;
+            state_2 = (word_50 3 (k + 2 + 1) (omega arith) (omega arith) ∙ back b.mode_1.state_2 g.1.1) t;
+          };
+          mode_2 = record {
+            state_1 = (word_50 4 (k + 4) (omega arith) (omega arith) ∙ back b.mode_2.state_1 g.2.0) t;
+            state_2 = (word_50 5 (k + 4 + 1) (omega arith) (omega arith) ∙ back b.mode_2.state_2 g.2.1) t;
+          };
+          mode_3 = record {
+            state_1 = (word_50 6 (k + 6) (omega arith) (omega arith) ∙ back b.mode_3.state_1 g.3.0) t;
+            state_2 = (word_50 7 (k + 6 + 1) (omega arith) (omega arith) ∙ back b.mode_3.state_2 g.3.1) t;
+          };
         }
 
   slot_back : slot_in ws s.modal.held ≡ s
@@ -225,11 +261,24 @@ module _ (s : Slot) (f : SlotF32 s) where
       λ t. record {
         kind = s.kind;
         string = record {
-          excitation_filter = record { g = back e.g g.0.0 t; r = back e.r g.0.1 t; h = back e.h g.0.2 t; state_1 = back e.state_1 g.0.3 t; state_2 = back e.state_2 g.0.4 t };
+          excitation_filter = record {
+            g = back e.g g.0.0 t;
+            r = back e.r g.0.1 t;
+            h = back e.h g.0.2 t;
+            state_1 = back e.state_1 g.0.3 t;
+            state_2 = back
+                e.state_2 g.0.4 t;
+          };
           string = record {
             string = v.string.string;
             stretch = v.string.stretch;
-            iir_damping_filter = record { g = back d.g g.1.0.0 t; r = back d.r g.1.0.1 t; h = back d.h g.1.0.2 t; state_1 = back d.state_1 g.1.0.3 t; state_2 = back d.state_2 g.1.0.4 t };
+            iir_damping_filter = record {
+              g = back d.g g.1.0.0 t;
+              r = back d.r g.1.0.1 t;
+              h = back d.h g.1.0.2 t;
+              state_1 = back d.state_1 g.1.0.3 t;
+              state_2 = back d.state_2 g.1.0.4 t;
+            };
             dc_blocker = record { pole = back c.pole g.1.1.0 t; x = back c.x g.1.1.1 t; y = back c.y g.1.1.2 t };
             delay = back v.string.delay g.1.2 t;
             dispersion_noise = back v.string.dispersion_noise g.1.3 t;

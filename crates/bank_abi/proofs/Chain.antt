@@ -50,7 +50,8 @@ unfolding is_bank bad_flags parts
 fresh_is = ap is_bank fresh_zeros ∙ refl
 
 fresh_back : decode_bank (encode_bank fresh_bank) ≡ fresh_bank
-unfolding decode_bank parts decode_slot slot_in voice_in string_in svf_in dc_in modal_in mode_in batch_in words_in of_bits tab fresh_bank empty_slot no_string string_voice.voice_new string_new voice_new resonator_new filters_new mode_new svf_new dc_init
+unfolding decode_bank parts decode_slot slot_in voice_in string_in svf_in dc_in modal_in mode_in batch_in words_in of_bits tab fresh_bank empty_slot no_string
+    string_voice.voice_new string_new voice_new resonator_new filters_new mode_new svf_new dc_init
 fresh_back = ap decode_bank fresh_zeros ∙ refl
 
 pub exported_demand_3 : ExportedDemand3

@@ -76,7 +76,8 @@ module _ (bs : List ℕ) (mem : List Float) (c : Call) where
     pub sound : Sound (slot_at (decode_bank bs) c.slot)
     pub rest : first (checks kind_of c.act) ≡ Ok tt
 
-  pub taken : {b : Bool} {n : ℕ} {r : Result (Unit {0}) Reason} → r ≡ verdict b n c → b ≡ bad_bytes bs mem → (length bs ≡ 3144 → n ≡ kind_of) → r ≡ Ok tt → Taken
+  pub taken : {b : Bool} {n : ℕ} {r : Result (Unit {0}) Reason} → r ≡ verdict b n c → b ≡ bad_bytes bs mem → (length bs ≡ 3144 → n ≡ kind_of) → r ≡ Ok tt
+      → Taken
   taken e₀ eb en ev =
       let e = decided e₀ eb en ev in
       let g = begun (bad_bytes bs mem) c.slot kind_of c.act e in
@@ -86,7 +87,8 @@ module _ (bs : List ℕ) (mem : List Float) (c : Call) where
 
 -- ---- what an accepted call leaves is a slot that the bytes can hold
 
-small_after : (act : Act) (slot : ℕ) (s : Slot) (word : ℕ) (mem : List Float) → Sound s → length mem ≡ 10240 → slot < 8 → InF32 act → first (checks s.kind act) ≡ Ok tt
+small_after : (act : Act) (slot : ℕ) (s : Slot) (word : ℕ) (mem : List Float) → Sound s → length mem ≡ 10240 → slot < 8 → InF32 act
+    → first (checks s.kind act) ≡ Ok tt
     → Numbers (acted act slot s word mem).slot
 unfolding acted
 small_after act slot s word mem o l h i e =
@@ -113,7 +115,8 @@ module _ (x : Crossing) (c : Call) where
   refused r i en e =
       record {
         is = ap (λ (v : Result (Unit {0}) Reason). cross_by v x c) e ∙ λ j. record { number = sym en j; counts = no_counts; after = x; bufs = lent c.act };
-        agrees = λ b. ap (λ (v : Result (Unit {0}) Reason). numbers_of (call_by v (world_of x) c)) (same_table b ∙ e) ∙ λ j. (sym en j, no_counts, world_of x, lent c.act);
+        agrees = λ b. ap (λ (v : Result (Unit {0}) Reason). numbers_of (call_by v (world_of x) c)) (same_table b ∙ e)
+            ∙ λ j. (sym en j, no_counts, world_of x, lent c.act);
         stays = λ b. b;
         given = i;
       }
@@ -124,9 +127,16 @@ module _ (x : Crossing) (c : Call) where
       → Wrote x c (record { number = 0; counts = m.counts; after = record { bytes = bs; word = m.word; mem = m.mem }; bufs = m.bufs })
   unfolding cross_by
   wrote s m bs es em eb f =
-      let em' : acted c.act c.slot (slot_at (decode_bank x.bytes) c.slot) x.word x.mem ≡ m = ap (λ (y : Slot). acted c.act c.slot y x.word x.mem) (sym es) ∙ em in
+      let em' : acted c.act c.slot (slot_at (decode_bank x.bytes) c.slot) x.word x.mem ≡ m = ap (λ (y : Slot). acted c.act c.slot y x.word x.mem) (sym es)
+      ∙ em in
       record {
-        is = ap (λ (q : Acted). record { number = 0; counts = q.counts; after = record { bytes = with_bytes c.slot (encode_slot q.slot) x.bytes; word = q.word; mem = q.mem }; bufs = q.bufs }) em'
+        is = ap (λ (q : Acted). record {
+          number = 0;
+          counts = q.counts;
+          after = record
+              { bytes = with_bytes c.slot (encode_slot q.slot) x.bytes; word = q.word; mem = q.mem };
+          bufs = q.bufs;
+        }) em'
             ∙ λ j. record { number = 0; counts = m.counts; after = record { bytes = sym eb j; word = m.word; mem = m.mem }; bufs = m.bufs };
         held = subst (λ (q : Acted). SlotF32 q.slot) (sym em') f;
       }

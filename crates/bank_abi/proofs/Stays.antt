@@ -42,5 +42,6 @@ bank_stays bs slot s e h f =
     let k = length_slot_bytes s f.1 in
     let n : length (with_bytes slot (encode_slot s) bs) ≡ 3144 = length_put (393 * slot) 393 (encode_slot s) bs (omega arith) k ∙ l in
     let g : bad_flags (parts 8 (with_bytes slot (encode_slot s) bs)) ≡ false =
-    ap bad_flags (parts_put 8 slot (encode_slot s) bs h (omega arith) k) ∙ flags_set (parts 8 bs) slot (encode_slot s) (flag_good s f) (not-true (bad_flags (parts 8 bs)) p.1) in
+    ap bad_flags (parts_put 8 slot (encode_slot s) bs h (omega arith) k)
+    ∙ flags_set (parts 8 bs) slot (encode_slot s) (flag_good s f) (not-true (bad_flags (parts 8 bs)) p.1) in
     rw (eq-eqb (length (with_bytes slot (encode_slot s) bs)) 3144 n, g)

@@ -14,11 +14,13 @@ use Rattle.string_voice.specs.StringVoice as string_voice
 use Rattle.slots.specs.declared.slots.Slot.{Slot}
 use Rattle.slots.specs.Slots.{no_string, empty_slot, fresh_bank}
 use Rattle.slot_bytes.specs.Words.{bytes, each}
-use Rattle.slot_bytes.specs.Layout.{svf_words, dc_words, string_words, voice_words, mode_words, batch_words, float_words, modal_words, slot_words, encode_slot, encode_bank}
+use Rattle.slot_bytes.specs.Layout.{svf_words, dc_words, string_words, voice_words, mode_words, batch_words, float_words, modal_words, slot_words, encode_slot}
+use Rattle.slot_bytes.specs.Layout.{encode_bank}
 use Rattle.bank_abi.specs.Crossing.{fresh_def}
 
 empty_zeros : encode_slot empty_slot ≡ replicate 393 0
-unfolding encode_slot slot_words voice_words string_words svf_words dc_words modal_words mode_words batch_words float_words each bytes empty_slot no_string string_voice.voice_new string_new voice_new resonator_new filters_new mode_new svf_new dc_init to_bits of_bits
+unfolding encode_slot slot_words voice_words string_words svf_words dc_words modal_words mode_words batch_words float_words each bytes empty_slot no_string
+    string_voice.voice_new string_new voice_new resonator_new filters_new mode_new svf_new dc_init to_bits of_bits
 empty_zeros = refl
 
 each_zeros : (n k : ℕ) (x : Slot) → encode_slot x ≡ replicate k 0 → each encode_slot (replicate n x) ≡ replicate (n * k) 0

@@ -115,7 +115,9 @@ pub extern "C" fn bleidhvan_render(
 ) -> u32
     ensures { Gives (record { bytes = bytes.old; word = word.old; mem = lines.old }) (record {
       slot = slot;
-      act = render (record { sustain = sustain; trigger = trigger; accent = accent; f0 = f0; structure = structure; brightness = brightness; damping = damping }) (record { temp = temp.old; temp2 = temp_2.old; out = out.old; aux = aux.old });
+      act = render
+          (record { sustain = sustain; trigger = trigger; accent = accent; f0 = f0; structure = structure; brightness = brightness; damping = damping })
+          (record { temp = temp.old; temp2 = temp_2.old; out = out.old; aux = aux.old });
     }) (record {
       number = result;
       counts = record { burst = burst.new; dust = dust.new; dispersion = dispersion.new };

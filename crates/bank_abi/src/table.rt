@@ -9,7 +9,7 @@ use slot_bytes::words::word_at;
 
 // Whether a slot's kind, places, left or flag is bad.
 // Its limits are those of `slots::table`, which asks a decoded slot: they are read here from the bytes, and no slot is decoded.
-#[tactic(auto, unfolding(slots::specs::Table::bad_slot, slot_bytes::specs::Layout::decode_slot, slot_bytes::specs::Layout::slot_in, slot_bytes::specs::Layout::voice_in, slot_bytes::specs::Layout::string_in))]
+#[tactic(auto, unfolding(slots::specs::Table::bad_slot, slot_bytes::specs::Layout::decode_slot, slot_bytes::specs::Layout::slot_in, slot_bytes::specs::Layout::voice_in, slot_bytes::specs::Layout::string_in,),)]
 fn bad_slot(b: &[u8; 393]) -> bool
     ensures { result ≡ bad_slot (decode_slot b.now) || bad_flag b.now }
 {
@@ -37,8 +37,9 @@ pub fn bad(bytes: &[u8], lines: &[f32]) -> bool
     bytes.len() != 3144 || lines.len() != 10240 || bad_slots(bytes)
 }
 
-// The kind of a slot of a bank; of bytes of another length, and where there is no such slot, 0 and no `None`: 0 is an empty slot's number, which the definition gives for no slot.
-#[tactic(auto, unfolding(crate::specs::Crossing::kind_in, slot_bytes::specs::Layout::decode_slot, slot_bytes::specs::Layout::slot_in), using(slot_bytes::proofs::Parts::slot_of, slot_bytes::proofs::Parts::slot_none))]
+// The kind of a slot of a bank; of bytes of another length, and where there is no such slot, 0 and no `None`: 0 is an empty slot's number, which the definition
+// gives for no slot.
+#[tactic(auto, unfolding(crate::specs::Crossing::kind_in, slot_bytes::specs::Layout::decode_slot, slot_bytes::specs::Layout::slot_in), using(slot_bytes::proofs::Parts::slot_of, slot_bytes::proofs::Parts::slot_none),)]
 pub fn kind_at(bytes: &[u8], slot: usize) -> u32
     ensures { result ≡ kind_in bytes.now slot }
 {

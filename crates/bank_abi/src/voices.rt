@@ -25,7 +25,8 @@ fn render_string(
     k: Knobs,
     b: &mut Buffers,
 ) -> Drawn
-    requires { ((slot_at (decode_bank bytes.old) slot).kind ≡ 1) × Ready (slot_at (decode_bank bytes.old) slot) lines.old slot b.old.out.now × IsAlike b.old × (length bytes.old ≡ 3144) }
+    requires { ((slot_at (decode_bank bytes.old) slot).kind ≡ 1) × Ready (slot_at (decode_bank bytes.old) slot) lines.old slot b.old.out.now
+        × IsAlike b.old × (length bytes.old ≡ 3144) }
     ensures wrote { Wrote (record { bytes = bytes.old; word = word; mem = lines.old }) (record {
       slot = slot;
       act = render k (held b.old);
@@ -84,7 +85,8 @@ pub fn render(
     k: Knobs,
     b: &mut Buffers,
 ) -> Drawn
-    requires { (kind ≡ (slot_at (decode_bank bytes.old) slot).kind) × Ready (slot_at (decode_bank bytes.old) slot) lines.old slot b.old.out.now × IsAlike b.old × (length bytes.old ≡ 3144) }
+    requires { (kind ≡ (slot_at (decode_bank bytes.old) slot).kind) × Ready (slot_at (decode_bank bytes.old) slot) lines.old slot b.old.out.now
+        × IsAlike b.old × (length bytes.old ≡ 3144) }
     ensures wrote { Wrote (record { bytes = bytes.old; word = word; mem = lines.old }) (record {
       slot = slot;
       act = render k (held b.old);

@@ -146,15 +146,19 @@ module _ {a x b c y d : Float} (p : Between a x b) (q : Between c y d) (l h : Fl
   mul_below : (z e : Float) → T (finite e) → T (le (z ⊗ y) (e ⊗ y)) → T (le (e ⊗ c) h) → T (le (e ⊗ d) h) → T (le (z ⊗ y) h)
   mul_below z e f k s t =
       elim (le_or zero_f e tt f) [
-        | inl n ↦ le_trans_float (z ⊗ y) (e ⊗ y) h k (le_trans_float (e ⊗ y) (e ⊗ d) h (rw (mul_comm_float e y, mul_comm_float e d) (mul_le y d e (finite_in q) q.high_finite f n q.most)) t)
-        | inr n ↦ le_trans_float (z ⊗ y) (e ⊗ y) h k (le_trans_float (e ⊗ y) (e ⊗ c) h (rw (mul_comm_float e y, mul_comm_float e c) (mul_ge c y e q.low_finite (finite_in q) f n q.least)) s)
+        | inl n ↦ le_trans_float (z ⊗ y) (e ⊗ y) h k (le_trans_float (e ⊗ y) (e ⊗ d) h
+            (rw (mul_comm_float e y, mul_comm_float e d) (mul_le y d e (finite_in q) q.high_finite f n q.most)) t)
+        | inr n ↦ le_trans_float (z ⊗ y) (e ⊗ y) h k (le_trans_float (e ⊗ y) (e ⊗ c) h
+            (rw (mul_comm_float e y, mul_comm_float e c) (mul_ge c y e q.low_finite (finite_in q) f n q.least)) s)
       ]
 
   mul_above : (z e : Float) → T (finite e) → T (le (e ⊗ y) (z ⊗ y)) → T (le l (e ⊗ c)) → T (le l (e ⊗ d)) → T (le l (z ⊗ y))
   mul_above z e f k s t =
       elim (le_or zero_f e tt f) [
-        | inl n ↦ le_trans_float l (e ⊗ y) (z ⊗ y) (le_trans_float l (e ⊗ c) (e ⊗ y) s (rw (mul_comm_float e y, mul_comm_float e c) (mul_le c y e q.low_finite (finite_in q) f n q.least))) k
-        | inr n ↦ le_trans_float l (e ⊗ y) (z ⊗ y) (le_trans_float l (e ⊗ d) (e ⊗ y) t (rw (mul_comm_float e y, mul_comm_float e d) (mul_ge y d e (finite_in q) q.high_finite f n q.most))) k
+        | inl n ↦ le_trans_float l (e ⊗ y) (z ⊗ y) (le_trans_float l (e ⊗ c) (e ⊗ y) s
+            (rw (mul_comm_float e y, mul_comm_float e c) (mul_le c y e q.low_finite (finite_in q) f n q.least))) k
+        | inr n ↦ le_trans_float l (e ⊗ y) (z ⊗ y) (le_trans_float l (e ⊗ d) (e ⊗ y) t
+            (rw (mul_comm_float e y, mul_comm_float e d) (mul_ge y d e (finite_in q) q.high_finite f n q.most))) k
       ]
 
   pub mul_in : T (encloses product a b c d l h) → Between l (x ⊗ y) h

@@ -2,7 +2,8 @@
 use mathlib.Core.Path.{◌≡◌, refl, sym, ap, ap₂, ◌∙◌, subst}
 use mathlib.Core.Bool.{Bool, true, false, not, ◌&&◌}
 use Prim.Native.Nat.{ℕ, zero, suc, ◌+◌, ◌-◌, ◌*◌, ◌%◌, ◌^◌, ◌≤◌, ◌<◌}
-use native.Mathlib.Nat.{le_trans, add_comm, le_of_eq, not-le_of_lt, one-mul, mul_comm, mul-pos, add-mul, mul_right_comm, mul-mul-mul_comm, mul-le-mul_right, mul-lt-mul_of_pos_right, le_of_mul-le-mul_right, lt_of_mul-lt-mul_right}
+use native.Mathlib.Nat.{le_trans, add_comm, le_of_eq, not-le_of_lt, one-mul, mul_comm, mul-pos, add-mul, mul_right_comm, mul-mul-mul_comm, mul-le-mul_right}
+use native.Mathlib.Nat.{mul-lt-mul_of_pos_right, le_of_mul-le-mul_right, lt_of_mul-lt-mul_right}
 use native.Mathlib.Omega.{arith}
 use lib.Dec.{T, ltb, leb, eqb, ltb→lt, leb→le, nltb→le, eqb→eq, lit≤, not_T}
 use lib.IntN.{ℤ, pos, negsuc}
@@ -66,7 +67,8 @@ times (lib.Ieee.inf _) p t = elim p [ ]
 over_one : (a Y d X k l U : ℕ) → X * k ≡ U → Y * l ≡ U → (a * Y + d * X) * (k * l) ≡ (a * k + d * l) * U
 over_one a Y d X k l U ex ey =
     add-mul (a * Y) (d * X) (k * l)
-    ∙ ap₂ ◌+◌ (mul-mul-mul_comm a Y k l ∙ ap (λ (z : ℕ). a * k * z) ey) (ap (λ (z : ℕ). d * X * z) (mul_comm k l) ∙ mul-mul-mul_comm d X l k ∙ ap (λ (z : ℕ). d * l * z) ex)
+    ∙ ap₂ ◌+◌ (mul-mul-mul_comm a Y k l ∙ ap (λ (z : ℕ). a * k * z) ey)
+    (ap (λ (z : ℕ). d * X * z) (mul_comm k l) ∙ mul-mul-mul_comm d X l k ∙ ap (λ (z : ℕ). d * l * z) ex)
     ∙ sym (add-mul (a * k) (d * l) U)
 
 apart : (a b X c d Y k l U : ℕ) → X * k ≡ U → Y * l ≡ U → 0 < k → 0 < l → b * Y + c * X < a * Y + d * X → X * Y + (b * Y + c * X) * U ≤ (a * Y + d * X) * U
@@ -107,7 +109,8 @@ above_gap x y p q f g h =
     let k = not-le→number x y p q (not_T (le x y) (lt→not-le y x h)) in
     near_mono (pow_pos 149) (mul-pos (den_pos x) (den_pos y)) tiny_near (sub_near x y p q)
     (one_up (plus x * den y + less y * den x) (less x * den y + plus y * den x) (den x * den y) (2 ^ 149)
-    (apart (plus x) (less x) (den x) (plus y) (less y) (den y) u.factor v.factor (2 ^ 149) u.whole v.whole u.above v.above (turn (plus y * den x) (less x * den y) (plus x * den y + less y * den x) k)))
+    (apart (plus x) (less x) (den x) (plus y) (less y) (den y) u.factor v.factor (2 ^ 149) u.whole v.whole u.above v.above
+    (turn (plus y * den x) (less x * den y) (plus x * den y + less y * den x) k)))
 
 pub below_gap : (x y : Float) → T (finite x) → T (finite y) → T (fits binary32 x) → T (fits binary32 y) → T (lt x y) → T (le (x ⊖ y) (neg tiny))
 below_gap x y p q f g h =

@@ -3,7 +3,8 @@ use mathlib.Core.Path.{◌≡◌, refl, sym, ap, ◌∙◌, subst}
 use mathlib.Core.Logic.{inl, inr}
 use mathlib.Core.Bool.{Bool, true, false, not, ◌&&◌, cond, true≢false}
 use Prim.Native.Nat.{ℕ, zero, suc, ◌+◌, ◌-◌, ◌*◌, ◌/◌, ◌%◌, ◌^◌, ◌≤◌, ◌<◌, zero-le, min}
-use native.Mathlib.Nat.{le_of_lt, le_of_eq, lt_of_le_of_lt, zero-lt-suc, mul-one, mul_comm, mul_assoc, mul-pos, mul-le-mul_right, mul_right_comm, add-mul, div-le_of_le-mul, div-lt_iff_lt-mul, div-one, div-le_self, div-add-mod', mod-lt, mod-le}
+use native.Mathlib.Nat.{le_of_lt, le_of_eq, lt_of_le_of_lt, zero-lt-suc, mul-one, mul_comm, mul_assoc, mul-pos, mul-le-mul_right, mul_right_comm, add-mul}
+use native.Mathlib.Nat.{div-le_of_le-mul, div-lt_iff_lt-mul, div-one, div-le_self, div-add-mod', mod-lt, mod-le}
 use native.Mathlib.Omega.{arith}
 use lib.Dec.{T, ltb, leb, eqb, ltb→lt, lt→ltb, lit<}
 use lib.IntN.{ℤ, pos, negsuc}
@@ -73,7 +74,8 @@ lt_one (inf false) f h = absurd h
 lt_one (fin true m e) f h = number→le (fin true m e) float_under_one tt tt (omega arith)
 lt_one (fin false m (pos k)) f h = number→le (fin false m (pos k)) float_under_one tt tt (omega (arith, ltb→lt (m * 2 ^ k * 1) 1 h))
 lt_one (fin false m (negsuc k)) f h =
-    number→le (fin false m (negsuc k)) float_under_one tt tt (omega (arith, under_one m (2 ^ suc k) (omega (arith, ltb→lt (m * 1 * 1) (1 * 2 ^ suc k) h)) (digits false m (negsuc k) f)))
+    number→le (fin false m (negsuc k)) float_under_one tt tt (omega
+    (arith, under_one m (2 ^ suc k) (omega (arith, ltb→lt (m * 1 * 1) (1 * 2 ^ suc k) h)) (digits false m (negsuc k) f)))
 
 -- at most 1 and at least 1 is 1
 pub is_one : (x : Float) → T (fits binary32 x) → T (le one_f x) → T (le x one_f) → x ≡ one_f
@@ -82,7 +84,8 @@ is_one (inf true) f h k = absurd (unfold le in h)
 is_one (inf false) f h k = absurd (unfold le in k)
 is_one (fin true m e) f h k = absurd (omega (arith, down_pos e, le→number one_f (fin true m e) tt tt h))
 is_one (fin false m e) f h k =
-    whole_unique binary32 (fin false m e) one_f false 1 f (unfold fits in tt) (refl, omega (arith, le→number one_f (fin false m e) tt tt h, le→number (fin false m e) one_f tt tt k)) (refl, refl)
+    whole_unique binary32 (fin false m e) one_f false 1 f (unfold fits in tt)
+    (refl, omega (arith, le→number one_f (fin false m e) tt tt h, le→number (fin false m e) one_f tt tt k)) (refl, refl)
 
 -- ---- the fraction of a float that is not below zero: from 0 to the largest float below 1
 one_is : float_under_one ≡ round binary32 false 16777215 16777216
@@ -96,13 +99,24 @@ zero_is = refl
 -- X / c less the whole number n / d = W, where X / c is W and r / c more
 taken_off : (X c W r n d : ℕ) → X ≡ W * c + r → n * 1 ≡ W * d → r * 16777216 ≤ 16777215 * c → AtMost (X * d + 0 * c) (0 * d + n * c) (c * d) 16777215 0 16777216
 taken_off X c W r n d e f h =
-    omega (arith, e, ap (λ (z : ℕ). z * d) e, add-mul (W * c) r d, ap (λ (z : ℕ). z * c) (sym (mul-one n) ∙ f), mul_right_comm W c d, mul-le-mul_right d h, mul_right_comm r 16777216 d, mul_assoc 16777215 c d)
+    omega (
+      arith,
+      e,
+      ap (λ (z : ℕ). z * d) e,
+      add-mul (W * c) r d,
+      ap (λ (z : ℕ). z * c) (sym (mul-one n) ∙ f),
+      mul_right_comm W c d,
+      mul-le-mul_right d h,
+      mul_right_comm r 16777216 d,
+      mul_assoc 16777215 c d,
+    )
 
 left_over : (X c W r n d : ℕ) → X ≡ W * c + r → n * 1 ≡ W * d → AtMost 0 0 1 (X * d + 0 * c) (0 * d + n * c) (c * d)
 left_over X c W r n d e f =
     omega (arith, e, ap (λ (z : ℕ). z * d) e, add-mul (W * c) r d, ap (λ (z : ℕ). z * c) (sym (mul-one n) ∙ f), mul_right_comm W c d)
 
-minus_whole : (m : ℕ) (e : ℤ) (w : Float) (W r : ℕ) → HasValue w false W 1 → m * up e ≡ W * down e + r → r * 16777216 ≤ 16777215 * down e → Between zero_f (fin false m e ⊖ w) float_under_one
+minus_whole : (m : ℕ) (e : ℤ) (w : Float) (W r : ℕ) → HasValue w false W 1 → m * up e ≡ W * down e + r → r * 16777216 ≤ 16777215 * down e
+    → Between zero_f (fin false m e ⊖ w) float_under_one
 minus_whole m e nan W r v p h = absurd v
 minus_whole m e (inf s) W r v p h = absurd v
 minus_whole m e (fin true n d) W r v p h = absurd (true≢false v.0)
@@ -132,9 +146,11 @@ cut_float m (negsuc k) d h = round_whole binary32 false (m * 1 / 2 ^ suc k) (ome
 cut_is : (m : ℕ) (e : ℤ) → m * up e < 2 ^ 64 * down e → whole_part (fin false m e) ≡ m * up e / down e
 unfolding whole_part lt of_bits le to_unsigned
 cut_is m e h =
-    go (le one_f (fin false m e)) (λ n. not-le→number one_f (fin false m e) tt tt n) (ltb (m * up e * 1) (18446744073709551616 * down e)) (lt→ltb (m * up e * 1) (18446744073709551616 * down e) (omega arith))
+    go (le one_f (fin false m e)) (λ n. not-le→number one_f (fin false m e) tt tt n) (ltb (m * up e * 1) (18446744073709551616 * down e))
+    (lt→ltb (m * up e * 1) (18446744073709551616 * down e) (omega arith))
   where
-    go : (t : Bool) → (T (not t) → m * up e * 1 + 0 * down e < 1 * down e + 0 * 1) → (u : Bool) → T u → cond (t && u) (min (m * up e / down e) (2 ^ 64 - 1)) 0 ≡ m * up e / down e
+    go : (t : Bool) → (T (not t) → m * up e * 1 + 0 * down e < 1 * down e + 0 * 1) → (u : Bool) → T u
+        → cond (t && u) (min (m * up e / down e) (2 ^ 64 - 1)) 0 ≡ m * up e / down e
     go true f true z = let q : m * up e / down e < 2 ^ 64 = (div-lt_iff_lt-mul (down_pos e)).1 h in omega arith
     go false f u z = let q : m * up e / down e < 1 = (div-lt_iff_lt-mul (down_pos e)).1 (omega (arith, f tt)) in omega arith
     go true f false z = elim z [ ]
@@ -143,10 +159,12 @@ remainder : (m : ℕ) (e : ℤ) → m < 16777216 → m * up e % down e * 1677721
 remainder m (pos k) d = omega (arith, mod-lt (m * 2 ^ k) (zero-lt-suc 0))
 remainder m (negsuc k) d = under_one (m * 1 % 2 ^ suc k) (2 ^ suc k) (mod-lt (m * 1) (pow_pos (suc k))) (omega (arith, mod-le (m * 1) (2 ^ suc k)))
 
-fraction_cut : (m : ℕ) (e : ℤ) → m < 16777216 → m * up e < 2 ^ 64 * down e → Between zero_f (fin false m e ⊖ of_int binary32 (pos (whole_part (fin false m e)))) float_under_one
+fraction_cut : (m : ℕ) (e : ℤ) → m < 16777216 → m * up e < 2 ^ 64 * down e
+    → Between zero_f (fin false m e ⊖ of_int binary32 (pos (whole_part (fin false m e)))) float_under_one
 fraction_cut m e d h =
     rw (cut_is m e h)
-    (minus_whole m e (of_int binary32 (pos (m * up e / down e))) (m * up e / down e) (m * up e % down e) (cut_float m e d h) (sym (div-add-mod' (m * up e) (down e))) (remainder m e d))
+    (minus_whole m e (of_int binary32 (pos (m * up e / down e))) (m * up e / down e) (m * up e % down e) (cut_float m e d h)
+    (sym (div-add-mod' (m * up e) (down e))) (remainder m e d))
 
 zero_in : Between zero_f zero_f float_under_one
 unfolding inside
@@ -170,7 +188,8 @@ fraction_in (fin true m e) f h = go (le two64 (fin true m e)) (le one_f (fin tru
     go false false = minus_zero_lem (fin true m e) h (number→le (fin true m e) zero_f tt tt (omega arith))
 fraction_in (fin false m e) f h = go (le two64 (fin false m e)) (λ n. not-le→number two64 (fin false m e) tt tt n)
   where
-    go : (t : Bool) → (T (not t) → m * up e * 1 + 0 * down e < 1 * 2 ^ 64 * down e + 0 * 1) → Between zero_f (cond t zero_f (fin false m e ⊖ of_int binary32 (pos (whole_part (fin false m e))))) float_under_one
+    go : (t : Bool) → (T (not t) → m * up e * 1 + 0 * down e < 1 * 2 ^ 64 * down e + 0 * 1)
+        → Between zero_f (cond t zero_f (fin false m e ⊖ of_int binary32 (pos (whole_part (fin false m e))))) float_under_one
     go true g = zero_in
     go false g = fraction_cut m e (digits false m e f) (omega (arith, g tt))
 

@@ -137,7 +137,8 @@ div_near (fin s m e) nan p q = elim q [ ]
 div_near (fin s m e) (inf _) p q = elim q [ ]
 
 -- ---- which operand comes first does not matter
-mixed : (a b c : ℕ) → cond (ltb a b) (round binary32 true (b - a) c) (round binary32 false (a - b) c) ≡ cond (ltb b a) (round binary32 false (a - b) c) (round binary32 (ltb a b) (b - a) c)
+mixed : (a b c : ℕ) → cond (ltb a b) (round binary32 true (b - a) c) (round binary32 false (a - b) c) ≡ cond (ltb b a) (round binary32 false (a - b) c)
+    (round binary32 (ltb a b) (b - a) c)
 mixed a b c = go (ltb a b) (ltb b a) (ltb→lt a b) (ltb→lt b a) (nltb→le a b) (nltb→le b a)
   where
     go : (u v : Bool) → (T u → a < b) → (T v → b < a) → (T (not u) → b ≤ a) → (T (not v) → a ≤ b)
@@ -245,7 +246,8 @@ mul_le x x' y p p' q n h =
 pub mul_ge : (x x' y : Float) → T (finite x) → T (finite x') → T (finite y) → T (le y zero_f) → T (le x x') → T (le (x' ⊗ y) (x ⊗ y))
 mul_ge x x' y p p' q n h =
     near_mono (mul-pos (den_pos x') (den_pos y)) (mul-pos (den_pos x) (den_pos y)) (by_less x' y p' q n) (by_less x y p q n)
-    (scaled (less x') (plus x') (den x') (less x) (plus x) (den x) (less y) (den y) (turned (plus x) (less x) (den x) (plus x') (less x') (den x') (le→number x x' p p' h)))
+    (scaled (less x') (plus x') (den x') (less x) (plus x) (den x) (less y) (den y)
+    (turned (plus x) (less x) (den x) (plus x') (less x') (den x') (le→number x x' p p' h)))
 
 -- over a divisor above zero
 plus_pos : (y : Float) → T (positive y) → 0 < plus y
@@ -257,7 +259,8 @@ plus_pos (inf _) q = elim q [ ]
 pub div_le : (x x' y : Float) → T (finite x) → T (finite x') → T (positive y) → T (le x x') → T (le (x ⊘ y) (x' ⊘ y))
 div_le x x' y p p' q h =
     near_mono (mul-pos (plus_pos y q) (den_pos x)) (mul-pos (plus_pos y q) (den_pos x')) (div_near x y p q) (div_near x' y p' q)
-    (rw (mul_comm (plus y) (den x), mul_comm (plus y) (den x')) (scaled (plus x) (less x) (den x) (plus x') (less x') (den x') (den y) (plus y) (le→number x x' p p' h)))
+    (rw (mul_comm (plus y) (den x), mul_comm (plus y) (den x')) (scaled (plus x) (less x) (den x) (plus x') (less x') (den x') (den y) (plus y)
+    (le→number x x' p p' h)))
 
 -- a larger divisor makes a quotient smaller that is not negative, and one larger that is not positive
 larger : (y y' : Float) → T (positive y) → T (positive y') → T (le y y') → plus y * den y' ≤ plus y' * den y

@@ -4,7 +4,8 @@ use mathlib.Core.Path.{◌≡◌, refl, sym, ap, ◌∙◌, subst}
 use mathlib.Core.Logic.{◌⊎◌, inl, inr}
 use mathlib.Core.Bool.{Bool, true, false, not, ◌&&◌, ◌||◌, cond}
 use Prim.Native.Nat.{ℕ, zero, suc, ◌+◌, ◌*◌, ◌^◌, ◌≤◌, ◌<◌}
-use native.Mathlib.Nat.{le_refl, eq-or-lt_of_le, eq-zero-or-pos, le_of_eq, le_of_lt, mul_comm, mul_assoc, mul_left_comm, add-mul, mul-add, mul-le-mul_right, le_of_mul-le-mul_right, zero-lt-suc}
+use native.Mathlib.Nat.{le_refl, eq-or-lt_of_le, eq-zero-or-pos, le_of_eq, le_of_lt, mul_comm, mul_assoc, mul_left_comm, add-mul, mul-add, mul-le-mul_right}
+use native.Mathlib.Nat.{le_of_mul-le-mul_right, zero-lt-suc}
 use native.Mathlib.Omega.{arith}
 use Rattle.std.proofs.lemmas.Float as Floats
 use lib.Dec.{T, ltb, eqb, ltb→lt, lt→ltb, nltb→le, eqb→eq, eqb_refl, T_not}
@@ -160,7 +161,8 @@ not-le→number x y p q n =
     let b = plus x * den y + less y * den x in
     go (ltb a b) (ltb→lt a b) (λ t. T_not (le x y) n (number→le x y p q (nltb→le a b t)))
   where
-    go : (t : Bool) → (T t → plus y * den x + less x * den y < plus x * den y + less y * den x) → (T (not t) → ⊥) → plus y * den x + less x * den y < plus x * den y + less y * den x
+    go : (t : Bool) → (T t → plus y * den x + less x * den y < plus x * den y + less y * den x) → (T (not t) → ⊥)
+        → plus y * den x + less x * den y < plus x * den y + less y * den x
     go true f g = f tt
     go false f g = absurd (g tt)
 
@@ -205,9 +207,12 @@ neg_finite (inf _) p = elim p [ ]
 finite_neg_le : (x y : Float) → T (finite x) → T (finite y) → T (le x y) → T (le (neg y) (neg x))
 unfolding neg
 finite_neg_le (fin true m e) (fin true n d) p q h = number→le (fin false n d) (fin false m e) q p (omega (arith, le→number (fin true m e) (fin true n d) p q h))
-finite_neg_le (fin true m e) (fin false n d) p q h = number→le (fin true n d) (fin false m e) q p (omega (arith, le→number (fin true m e) (fin false n d) p q h))
-finite_neg_le (fin false m e) (fin true n d) p q h = number→le (fin false n d) (fin true m e) q p (omega (arith, le→number (fin false m e) (fin true n d) p q h))
-finite_neg_le (fin false m e) (fin false n d) p q h = number→le (fin true n d) (fin true m e) q p (omega (arith, le→number (fin false m e) (fin false n d) p q h))
+finite_neg_le (fin true m e) (fin false n d) p q h = number→le (fin true n d) (fin false m e) q p
+    (omega (arith, le→number (fin true m e) (fin false n d) p q h))
+finite_neg_le (fin false m e) (fin true n d) p q h = number→le (fin false n d) (fin true m e) q p
+    (omega (arith, le→number (fin false m e) (fin true n d) p q h))
+finite_neg_le (fin false m e) (fin false n d) p q h = number→le (fin true n d) (fin true m e) q p
+    (omega (arith, le→number (fin false m e) (fin false n d) p q h))
 finite_neg_le nan y p q h = elim p [ ]
 finite_neg_le (inf _) y p q h = elim p [ ]
 finite_neg_le (fin false m e) nan p q h = elim q [ ]
@@ -239,7 +244,8 @@ units_neg : (q k : ℕ) → units binary32 true q k ≡ neg (units binary32 fals
 unfolding units
 units_neg q k = go (ltb (q * 2 ^ k) (2 ^ (low binary32 + suc (emax binary32))))
   where
-    go : (b : Bool) → cond b (odd (suc (prec binary32)) true q k (low binary32)) (inf true) ≡ neg (cond b (odd (suc (prec binary32)) false q k (low binary32)) (inf false))
+    go : (b : Bool) → cond b (odd (suc (prec binary32)) true q k (low binary32)) (inf true) ≡ neg
+        (cond b (odd (suc (prec binary32)) false q k (low binary32)) (inf false))
     go true = odd_neg (suc (prec binary32)) q k (low binary32)
     go false = unfold neg in refl
 

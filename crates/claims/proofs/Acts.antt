@@ -1,4 +1,5 @@
--- What a whole list needs of one voice: an accepted call draws as many words as the ledger says, whatever they are, and leaves what the ledger says. Assumes nothing.
+-- What a whole list needs of one voice: an accepted call draws as many words as the ledger says, whatever they are, and leaves what the ledger says. Assumes
+-- nothing.
 use mathlib.Core.Path.{◌≡◌, refl, sym, ap, ◌∙◌, subst}
 use mathlib.Core.Bool.{Bool, true, false, not, ◌||◌, cond}
 use Prim.Native.Nat.{ℕ, zero, suc, ◌+◌, ◌-◌, ◌≤◌, ◌<◌, min, zero-le}
@@ -75,7 +76,8 @@ module _ (k : Knobs) (b : Bufs) (v : Voice) (o : Sound v.slot) (e : length v.lin
         draws_then (total l.counts) (string.Left k x n) (Follows l) m _
         (subst (λ (j : ℕ). Draws j (string.Left k x n) m)
         (in_order k.sustain (string.left_at k x) n (string.dispersion_words k x.string n) ∙ ap total counts_are)
-        (string.render_draws k x n v.lines b.temp b.temp2 b.out b.aux (record { size = e; string = o.string; stretch = o.stretch }) refl a.temp2_is a.out_is a.aux_is))
+        (string.render_draws k x n v.lines b.temp b.temp2 b.out b.aux (record { size = e; string = o.string; stretch = o.stretch }) refl a.temp2_is a.out_is
+        a.aux_is))
         (λ r h. record {
           led = λ i. record {
             kind = v.slot.kind;
@@ -148,7 +150,8 @@ open_law (suc (suc zero)) rate v e t =
       lines = length-replicate (length v.lines) c0 ∙ e;
       counts = refl;
     }
-open_law (suc (suc (suc j))) rate v e t = let kind = suc (suc (suc j)) in absurd (above_two kind (omega arith) (eqb kind 1) (eqb kind 2) (eqb→eq kind 1) (eqb→eq kind 2) t)
+open_law (suc (suc (suc j))) rate v e t = let kind = suc (suc (suc j)) in absurd
+    (above_two kind (omega arith) (eqb kind 1) (eqb kind 2) (eqb→eq kind 1) (eqb→eq kind 2) t)
   where
     above_two : (kind : ℕ) → 2 < kind → (x y : Bool) → (T x → kind ≡ 1) → (T y → kind ≡ 2) → T (x || y) → ⊥
     above_two kind l true y f g t = omega (arith, f tt)

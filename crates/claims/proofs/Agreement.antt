@@ -48,7 +48,11 @@ unfolding strike
 left_is k v f = go (k.trigger || k.sustain)
   where
     go : (b : Bool)
-        → (cond b (record { excitation_filter = svf_set_f_q v.excitation_filter (cutoff_for k) (cond k.sustain c1 c0·5) Dirty; string = v.string; remaining_noise_samples = whole_part (c1 ⊘ k.f0) }) v).remaining_noise_samples
+        → (cond b (record {
+          excitation_filter = svf_set_f_q v.excitation_filter (cutoff_for k) (cond k.sustain c1 c0·5) Dirty;
+          string = v.string;
+          remaining_noise_samples = whole_part (c1 ⊘ k.f0);
+        }) v).remaining_noise_samples
         ≡ cond b (period k.f0) v.remaining_noise_samples
     go true = period_is k.f0 f
     go false = refl

@@ -188,12 +188,23 @@ module _ (w : World) (v : Inv w) (c : Call) where
 
   refused : (r : Reason) → Step w (leds w) c (call_by (Err r) w c) (line_by (Err r) (leds w) c)
   unfolding call_by line_by
-  refused r = record { same = refl; slots = refl; inv = v; dealt_is = refl; ends_is = refl; alone_is = λ s k. refl; ordered_is = none_dealt c.act r (voice_at c.slot w) w.word }
+  refused r = record {
+    same = refl;
+    slots = refl;
+    inv = v;
+    dealt_is = refl;
+    ends_is = refl;
+    alone_is = λ s k. refl;
+    ordered_is = none_dealt c.act r
+        (voice_at c.slot w) w.word;
+  }
 
-  by_verdict : InF32 c.act → (r : Result (Unit {0}) Reason) → verdict false (slot_at w.bank c.slot).kind c ≡ r → Step w (leds w) c (call_by r w c) (line_by r (leds w) c)
+  by_verdict : InF32 c.act → (r : Result (Unit {0}) Reason) → verdict false (slot_at w.bank c.slot).kind c ≡ r
+      → Step w (leds w) c (call_by r w c) (line_by r (leds w) c)
   unfolding verdict first
   by_verdict f (Ok u) e =
-      let q = spared NoSlot (ltb 7 c.slot) (checks (slot_at w.bank c.slot).kind c.act) (spared Memory false (NoSlot ⇐ ltb 7 c.slot ∷ checks (slot_at w.bank c.slot).kind c.act) e).1 in
+      let q = spared NoSlot (ltb 7 c.slot) (checks (slot_at w.bank c.slot).kind c.act)
+      (spared Memory false (NoSlot ⇐ ltb 7 c.slot ∷ checks (slot_at w.bank c.slot).kind c.act) e).1 in
       accepted f (suc-le-suc (ltb-false 7 c.slot q.0)) q.1
   by_verdict f (Err r) e = refused r
 

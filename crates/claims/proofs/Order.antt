@@ -43,7 +43,8 @@ module _ (k : Knobs) (b : Bufs) (v : Voice) (w : ℕ) (a : Alike b.temp b.temp2 
         let de = string.excite_draws k x n b.temp b.temp2 b.aux refl a.temp2_is a.aux_is in
         let f : string.FirstHalf k x n t = always_run (string.FirstHalf k x n) e w (draws_always _ _ e de) refl in
         let ds = string.sound_draws k t.voice n v.lines t.temp2 b.out (subst⁻¹ (λ (q : String). Good (q, v.lines)) f.string g) f.temp2 a.out_is in
-        let whole : string.Left k x n (value r w) = always_run (string.Left k x n) r w (draws_always _ _ r (string.render_draws k x n v.lines b.temp b.temp2 b.out b.aux g refl a.temp2_is a.out_is a.aux_is)) refl in
+        let whole : string.Left k x n (value r w) = always_run (string.Left k x n) r w
+        (draws_always _ _ r (string.render_draws k x n v.lines b.temp b.temp2 b.out b.aux g refl a.temp2_is a.out_is a.aux_is)) refl in
         let c : (value (string_def k b v) w).counts ≡ string.counts_of k x n = ap (λ (q : Ran Done). q.value.counts) (run_bind r _ w) ∙ whole.counts in
         record {
           both = words_then r _ w ∙ words_bind e _ w ∙ ap (λ (ws : List ℕ). words e w ++ ws) (words_then s _ (ending e w));
@@ -60,8 +61,10 @@ module _ (k : Knobs) (b : Bufs) (v : Voice) (w : ℕ) (a : Alike b.temp b.temp2 
       let e = M.excite_of k x b.temp b.temp2 b.aux in
       let r = M.render_of k x b.temp b.temp2 b.out b.aux in
       let de = modal.excite_draws k x n b.temp b.temp2 b.aux refl a.temp2_is a.aux_is in
-      let whole : modal.Left k x n (value r w) = always_run (modal.Left k x n) r w (draws_always _ _ r (modal.render_draws k x n b.temp b.temp2 b.out b.aux refl a.temp2_is a.out_is a.aux_is)) refl in
-      let c : (value (modal_def k b v) w).counts ≡ M.excitation_counts (M.excitation_words k.sustain n) = ap (λ (q : Ran Done). q.value.counts) (run_bind r _ w) ∙ whole.counts in
+      let whole : modal.Left k x n (value r w) = always_run (modal.Left k x n) r w
+      (draws_always _ _ r (modal.render_draws k x n b.temp b.temp2 b.out b.aux refl a.temp2_is a.out_is a.aux_is)) refl in
+      let c : (value (modal_def k b v) w).counts ≡ M.excitation_counts (M.excitation_words k.sustain n) = ap (λ (q : Ran Done). q.value.counts) (run_bind r _ w)
+      ∙ whole.counts in
       record {
         both = words_then r _ w ∙ words_bind e _ w;
         excitation = draws_length (M.excitation_words k.sustain n) _ e w de ∙ omega arith ∙ ap (λ (c : Counts). c.burst + c.dust) (sym c);

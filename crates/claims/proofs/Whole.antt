@@ -25,7 +25,8 @@ use Rattle.slots.specs.Calls.{InF32, Voice}
 use Rattle.slots.specs.Table.{Call, first, verdict, bad}
 use Rattle.bank.specs.World.{World, start, lines_at, voice_at, Event, call_by, call_def, run_from, end_from}
 use Rattle.claims.specs.Ledger.{Led, fresh_led, Line, line_by, line_of, ledger_from, ledger}
-use Rattle.claims.specs.Claim.{Feed, feed, feeds, Noted, listen, note, go_on, alone, seen, sum_of, total, drawn, dealt, Kept, Account, Ordered, Asked, calls_of, Demand3}
+use Rattle.claims.specs.Claim.{Feed, feed, feeds, Noted, listen, note, go_on, alone, seen, sum_of, total, drawn, dealt, Kept, Account, Ordered, Asked, calls_of}
+use Rattle.claims.specs.Claim.{Demand3}
 use Rattle.bank.proofs.Accepted.{Sound}
 use Rattle.claims.proofs.OneCall.{Inv, leds, Step, none_dealt, step}
 
@@ -61,7 +62,8 @@ facts (c ∷ cs) w ls q v f =
           ∙ sym (stream_add n (drawn es) w.word);
       ends = r.ends ∙ ap (moved (drawn es)) t.ends_is ∙ sym (moved_add n (drawn es) w.word);
       apart = λ s h.
-          hear_on (voice_at s w) (voice_at s e.after) (feed s c l.answer e.dealt) (feeds s cs (ledger_from 10240 l.slots cs) (map (λ x. x.dealt) es)) (seen s e) (map (seen s) es)
+          hear_on (voice_at s w) (voice_at s e.after) (feed s c l.answer e.dealt) (feeds s cs (ledger_from 10240 l.slots cs) (map (λ x. x.dealt) es)) (seen s e)
+          (map (seen s) es)
           (t.alone_is s h) refl (r.apart s h);
       in_order = (t.ordered_is, r.in_order);
     }
@@ -69,7 +71,8 @@ facts (c ∷ cs) w ls q v f =
 -- ---- the sums
 
 totals : (xs : List (Result Counts Reason))
-    → sum_of (λ a. total (counts_of a)) xs ≡ sum_of (λ a. (counts_of a).burst) xs + sum_of (λ a. (counts_of a).dust) xs + sum_of (λ a. (counts_of a).dispersion) xs
+    → sum_of (λ a. total (counts_of a)) xs ≡ sum_of (λ a. (counts_of a).burst) xs + sum_of (λ a. (counts_of a).dust) xs + sum_of (λ a. (counts_of a).dispersion)
+    xs
 totals [] = refl
 totals (a ∷ xs) = omega (arith, totals xs)
 
@@ -81,8 +84,17 @@ balanced : (es : List Event) (ls : List Line) → map (λ e. e.answer) es ≡ ma
     → drawn es ≡ sum_of (λ l. (counts_of l.answer).burst) ls + sum_of (λ l. (counts_of l.answer).dust) ls + sum_of (λ l. (counts_of l.answer).dispersion) ls
 balanced es ls q =
     let f : Line → Result Counts Reason = λ l. l.answer in
-    let p : drawn es ≡ sum_of (λ a. total (counts_of a)) (map f ls) = sym (sum_map (λ a. total (counts_of a)) (λ e. e.answer) es) ∙ ap (sum_of (λ a. total (counts_of a))) q in
-    omega (arith, p, totals (map f ls), sum_map (λ a. (counts_of a).burst) f ls, sum_map (λ a. (counts_of a).dust) f ls, sum_map (λ a. (counts_of a).dispersion) f ls)
+    let p : drawn es ≡ sum_of (λ a. total (counts_of a)) (map f ls) = sym (sum_map (λ a. total (counts_of a)) (λ e. e.answer) es)
+    ∙ ap (sum_of (λ a. total (counts_of a))) q in
+    omega (
+      arith,
+      p,
+      totals (map f ls),
+      sum_map (λ a. (counts_of a).burst) f ls,
+      sum_map (λ a. (counts_of a).dust) f ls,
+      sum_map (λ a. (counts_of a).dispersion)
+          f ls,
+    )
 
 -- ---- refusals change nothing
 

@@ -1,6 +1,7 @@
 -- The laws of computations that draw: the generator's words, the passage from the generator to a list fed, how a run goes on, how many words one
 -- draws, and what holds of all that it can give. Assumes nothing.
-use Rattle.std.proofs.Common.{◌≡◌, ℕ, zero, suc, ◌+◌, ◌<◌, List, ◌∷◌, ◌++◌, length, get_or, sym, refl, ap, ◌∙◌, subst, le_of_suc-le-suc, not-suc-le-zero, suc-add, zero-add}
+use Rattle.std.proofs.Common.{◌≡◌, ℕ, zero, suc, ◌+◌, ◌<◌, List, ◌∷◌, ◌++◌, length, get_or, sym, refl, ap, ◌∙◌, subst, le_of_suc-le-suc, not-suc-le-zero}
+use Rattle.std.proofs.Common.{suc-add, zero-add}
 use mathlib.Core.Path.{fun_ext}
 use mathlib.Core.Option.{some}
 use Rattle.ground.specs.Draw.{Draw, ret, ask, Ran, moved, stream, run, value, ending, words, fed, counted, ◌>>=◌}
@@ -137,7 +138,8 @@ module _ {A : Type 0} where
   counted_draws n P (ask k) h = (
     h.0,
     h.1,
-    λ w. draws_then h.0 (λ q. P q.0 × (q.1 ≡ h.0)) (λ q. P q.0 × (q.1 ≡ n)) (counted (k w)) (λ q. (q.0, suc q.1)) (counted_draws h.0 P (k w) (h.2 w)) (λ q p. (p.0, ap suc p.1 ∙ sym h.1)),
+    λ w. draws_then h.0 (λ q. P q.0 × (q.1 ≡ h.0)) (λ q. P q.0 × (q.1 ≡ n)) (counted (k w)) (λ q. (q.0, suc q.1)) (counted_draws h.0 P (k w) (h.2 w))
+        (λ q p. (p.0, ap suc p.1 ∙ sym h.1)),
   )
 
   run_counted : (n : ℕ) (P : A → Type 0) (m : Draw A) (w : ℕ) → Draws n P m → run (counted m) w ≡ record { value = ((run m w).value, n); word = (run m w).word }

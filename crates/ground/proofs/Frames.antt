@@ -1,5 +1,6 @@
 -- The law of every loop. What a loop's proof cites begins at `Frames`: the invariant, and how a loop begins, turns and ends.
-use Rattle.std.proofs.Common.{◌≡◌, ℕ, zero, suc, ◌+◌, ◌<◌, ◌≤◌, min, List, [], ◌∷◌, length, get_or, take, set, replicate, sym, refl, ap, ◌∙◌, subst, ap₂, le_of_suc-le-suc, not-suc-le-zero, add-one, arith, length-set}
+use Rattle.std.proofs.Common.{◌≡◌, ℕ, zero, suc, ◌+◌, ◌<◌, ◌≤◌, min, List, [], ◌∷◌, length, get_or, take, set, replicate, sym, refl, ap, ◌∙◌, subst, ap₂}
+use Rattle.std.proofs.Common.{le_of_suc-le-suc, not-suc-le-zero, add-one, arith, length-set}
 use lib.Seq.{set-get_or}
 use Rattle.ground.specs.Draw.{Draw, ret, ask, Ran, run, ◌>>=◌}
 use Rattle.ground.specs.Frames.{frames, scan, over, numbers, up_to}
@@ -129,10 +130,11 @@ module _ {S A B : Type 0} (step : S → A → B → Draw (S × B)) (Good : S →
 -- ---- what a loop's proof cites
 
 -- i frames are done: the state s, the output ys and the word w are what the loop over the first i inputs gives
-pub record Frames {S A B : Type 0} (step : S → A → B → Draw (S × B)) (s₀ : S) (xs : List A) (ys₀ : List B) (w₀ i : ℕ) (s : S) (ys : List B) (w : ℕ) : Type 0 where
-  pub within : i ≤ min (length xs) (length ys₀)
-  pub size : length ys ≡ length ys₀
-  pub so_far : run (frames step s₀ (take i xs) ys₀) w₀ ≡ record { value = (s, ys); word = w }
+pub record Frames {S A B : Type 0} (step : S → A → B → Draw (S × B)) (s₀ : S) (xs : List A) (ys₀ : List B) (w₀ i : ℕ) (s : S) (ys : List B) (w : ℕ) : Type 0
+  where
+    pub within : i ≤ min (length xs) (length ys₀)
+    pub size : length ys ≡ length ys₀
+    pub so_far : run (frames step s₀ (take i xs) ys₀) w₀ ≡ record { value = (s, ys); word = w }
 
 module _ {S A B : Type 0} {step : S → A → B → Draw (S × B)} {s₀ : S} {xs : List A} {ys₀ : List B} {w₀ : ℕ} where
   pub frames_begin : Frames step s₀ xs ys₀ w₀ 0 s₀ ys₀ w₀
@@ -199,7 +201,8 @@ module _ {S A B : Type 0} {step : S → A → B → S × B} {s₀ : S} {xs : Lis
       → ◌≡◌ {A = S × B} (s', y') (step s (get_or xs i a) (get_or ys i b)) → Scan step s₀ xs ys₀ (i + 1) s' (set ys i y')
   scan_turn a b f l e = frames_turn a b f l (ap (λ (r : S × B). record { value = r; word = 0 }) (sym e))
 
-  pub scan_end : {i : ℕ} {s : S} {ys : List B} → Scan step s₀ xs ys₀ i s ys → min (length xs) (length ys₀) ≤ i → ◌≡◌ {A = S × List B} (s, ys) (scan step s₀ xs ys₀)
+  pub scan_end : {i : ℕ} {s : S} {ys : List B} → Scan step s₀ xs ys₀ i s ys → min (length xs) (length ys₀) ≤ i
+      → ◌≡◌ {A = S × List B} (s, ys) (scan step s₀ xs ys₀)
   scan_end f l = ap (λ (r : Ran (S × List B)). r.value) (sym (frames_end f l) ∙ ap (λ (m : Draw (S × List B)). run m 0) (frames_still step s₀ xs ys₀))
 
 -- what such a loop puts at the frame i, told by its state there

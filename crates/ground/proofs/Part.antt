@@ -1,5 +1,6 @@
 -- The laws of a part: what stands in it after it was put, that a part beside it is as it was, and lengths.
-use Rattle.std.proofs.Common.{◌≡◌, ℕ, ◌+◌, ◌-◌, ◌*◌, ◌<◌, ◌≤◌, List, ◌++◌, length, take, drop, sym, ap, ◌∙◌, mul-le-mul_right, suc-mul, arith, length-append, length-drop, take-append-drop, length-take, length-take-le, drop-drop, take_at, drop_at}
+use Rattle.std.proofs.Common.{◌≡◌, ℕ, ◌+◌, ◌-◌, ◌*◌, ◌<◌, ◌≤◌, List, ◌++◌, length, take, drop, sym, ap, ◌∙◌, mul-le-mul_right, suc-mul, arith, length-append}
+use Rattle.std.proofs.Common.{length-drop, take-append-drop, length-take, length-take-le, drop-drop, take_at, drop_at}
 use native.Mathlib.Decide.{dec_lt}
 use lib.Seq.{take-append-le, drop-append-le, drop-append-add}
 use Rattle.ground.specs.Part.{part, put, on_part}

@@ -1,5 +1,9 @@
--- Products and fractions that are floats as they are, and words: a word of 32 bits, rounded to 24 by a unit from its digits, times the unit, is the float nearest to the word: both have the same whole value, and a format writes a whole number in one way. Assumes nothing.
-use Rattle.std.proofs.Common.{◌≡◌, ℕ, ◌+◌, ◌-◌, ◌*◌, ◌/◌, ◌^◌, ◌<◌, ◌≤◌, Bool, true, false, not, T, leb, ◌⊎◌, pos, sym, refl, ap, ◌∙◌, subst, inl, inr, true≢false, le_trans, le_of_eq, lt_of_lt_of_le, lt_of_le_of_lt, le_of_lt, mul-le-mul_right, zero-lt-suc, mul_assoc, mul_comm, eq-or-lt_of_le, mul-lt-mul_of_pos_right, mul-pos, one-mul, mul-one, mul_right_comm, div-one, arith, lit<, lit≤, leb→le, pow_pos, pow_mono, pow-add, shl_lt}
+-- Products and fractions that are floats as they are, and words: a word of 32 bits, rounded to 24 by a unit from its digits, times the unit, is the float
+-- nearest to the word: both have the same whole value, and a format writes a whole number in one way. Assumes nothing.
+use Rattle.std.proofs.Common.{◌≡◌, ℕ, ◌+◌, ◌-◌, ◌*◌, ◌/◌, ◌^◌, ◌<◌, ◌≤◌, Bool, true, false, not, T, leb, ◌⊎◌, pos, sym, refl, ap, ◌∙◌, subst, inl, inr}
+use Rattle.std.proofs.Common.{true≢false, le_trans, le_of_eq, lt_of_lt_of_le, lt_of_le_of_lt, le_of_lt, mul-le-mul_right, zero-lt-suc, mul_assoc, mul_comm}
+use Rattle.std.proofs.Common.{eq-or-lt_of_le, mul-lt-mul_of_pos_right, mul-pos, one-mul, mul-one, mul_right_comm, div-one, arith, lit<, lit≤, leb→le, pow_pos}
+use Rattle.std.proofs.Common.{pow_mono, pow-add, shl_lt}
 use Prim.Native.Nat.{compare}
 use native.Mathlib.Nat.{mul-mul-mul_comm, eq_of_mul-eq-mul_right, mod-one}
 use lib.Dec.{nleb→lt}
@@ -15,7 +19,8 @@ use lib.Ieee.Back.{round_whole, whole_unique}
 use Rattle.ground.proofs.Words.{size_gt, unit_of, unit_le, rounded_le}
 
 -- ---- the product of two values, none negative
-pub mul_values : (f : Format) (x y : Float) (a c b d : ℕ) → 0 < c → 0 < d → HasValue x false a c → HasValue y false b d → mul f x y ≡ round f false (a * b) (c * d)
+pub mul_values : (f : Format) (x y : Float) (a c b d : ℕ) → 0 < c → 0 < d → HasValue x false a c → HasValue y false b d
+    → mul f x y ≡ round f false (a * b) (c * d)
 unfolding mul
 mul_values f nan y a c b d C D v w = absurd v
 mul_values f (inf s) y a c b d C D v w = absurd v
@@ -25,7 +30,8 @@ mul_values f (fin false m e) (inf s) a c b d C D v w = absurd w
 mul_values f (fin false m e) (fin true n g) a c b d C D v w = absurd (true≢false w.0)
 mul_values f (fin false m e) (fin false n g) a c b d C D v w =
     round_same f false (m * up e * (n * up g)) (down e * down g) (a * b) (c * d) (mul-pos (down_pos e) (down_pos g)) (mul-pos C D)
-    (mul-mul-mul_comm (m * up e) (n * up g) c d ∙ ap (λ (x : ℕ). x * (n * up g * d)) v.1 ∙ ap (λ (x : ℕ). a * down e * x) w.1 ∙ mul-mul-mul_comm a (down e) b (down g))
+    (mul-mul-mul_comm (m * up e) (n * up g) c d ∙ ap (λ (x : ℕ). x * (n * up g * d)) v.1 ∙ ap (λ (x : ℕ). a * down e * x) w.1
+    ∙ mul-mul-mul_comm a (down e) b (down g))
 
 -- ---- a / c where a has 24 digits at most before its zeros, and c is a power of two
 pub record Dyadic (a c : ℕ) : Type 0 where
@@ -67,7 +73,8 @@ product n k h l = go (eq-or-lt_of_le h)
         let top : n * 2 ^ k ≡ 1 * 2 ^ (24 + k) = ap (λ (x : ℕ). x * 2 ^ k) e ∙ sym (pow-add 2 24 k) ∙ sym (one-mul (2 ^ (24 + k))) in
         round_exact binary32 false (n * 2 ^ k) 1 1 (24 + k + 149) (zero-lt-suc 0) (lit< tt)
         (subst (λ (x : ℕ). x < 2 ^ 277) (sym (one-mul (2 ^ (24 + k + 149)))) (pow-lt (wide k l)))
-        (ap (λ (x : ℕ). x * 2 ^ 149) top ∙ mul_assoc 1 (2 ^ (24 + k)) (2 ^ 149) ∙ ap (λ (x : ℕ). 1 * x) (sym (pow-add 2 (24 + k) 149)) ∙ sym (mul-one (1 * 2 ^ (24 + k + 149))))
+        (ap (λ (x : ℕ). x * 2 ^ 149) top ∙ mul_assoc 1 (2 ^ (24 + k)) (2 ^ 149) ∙ ap (λ (x : ℕ). 1 * x) (sym (pow-add 2 (24 + k) 149))
+        ∙ sym (mul-one (1 * 2 ^ (24 + k + 149))))
       where
         wide : (k : ℕ) → k ≤ 8 → 24 + k + 149 < 277
         wide k h = omega arith
@@ -150,11 +157,14 @@ exact_word w b =
     let z : size w ≤ 32 = size-le w 32 b in
     product (closest w (2 ^ (size w - 24))) (size w - 24) (rounded_le w) (omega arith)
 
-pub word_float_lem : (w : ℕ) → w < 2 ^ 32 → mul binary32 (of_int binary32 (pos (closest w (unit_of w)))) (of_int binary32 (pos (unit_of w))) ≡ of_int binary32 (pos w)
+pub word_float_lem : (w : ℕ) → w < 2 ^ 32 → mul binary32 (of_int binary32 (pos (closest w (unit_of w)))) (of_int binary32 (pos (unit_of w))) ≡ of_int binary32
+    (pos w)
 unfolding of_int
 word_float_lem w b =
     let u = unit_of w in
     let n = closest w u in
     let p : mul binary32 (round binary32 false n 1) (round binary32 false u 1) ≡ round binary32 false (n * u) 1 =
-    mul_values binary32 (round binary32 false n 1) (round binary32 false u 1) n 1 u 1 (zero-lt-suc 0) (zero-lt-suc 0) (round_whole binary32 false n (rounded_le w)) (round_whole binary32 false u (le_trans (unit_le w b) (lit≤ tt))) in
-    p ∙ whole_unique binary32 (round binary32 false (n * u) 1) (round binary32 false w 1) false (n * u) (round-fits binary32 false (n * u) 1) (round-fits binary32 false w 1) (exact_word w b) (word_value w b)
+    mul_values binary32 (round binary32 false n 1) (round binary32 false u 1) n 1 u 1 (zero-lt-suc 0) (zero-lt-suc 0)
+    (round_whole binary32 false n (rounded_le w)) (round_whole binary32 false u (le_trans (unit_le w b) (lit≤ tt))) in
+    p ∙ whole_unique binary32 (round binary32 false (n * u) 1) (round binary32 false w 1) false (n * u) (round-fits binary32 false (n * u) 1)
+    (round-fits binary32 false w 1) (exact_word w b) (word_value w b)

@@ -1,5 +1,6 @@
 -- The law of a loop that stores f i at i, for each i of an array in turn, and what stands in the list of f 0, f 1 and so on. Assumes nothing.
-use Rattle.std.proofs.Common.{◌≡◌, ℕ, zero, suc, ◌+◌, ◌<◌, List, [], ◌∷◌, ◌++◌, length, get_or, drop, set, refl, ap, ◌∙◌, le_of_suc-le-suc, not-suc-le-zero, add-one, arith}
+use Rattle.std.proofs.Common.{◌≡◌, ℕ, zero, suc, ◌+◌, ◌<◌, List, [], ◌∷◌, ◌++◌, length, get_or, drop, set, refl, ap, ◌∙◌, le_of_suc-le-suc, not-suc-le-zero}
+use Rattle.std.proofs.Common.{add-one, arith}
 use Rattle.ground.specs.Frames.{tab}
 
 -- i elements are done, and the others are as they were

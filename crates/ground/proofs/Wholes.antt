@@ -1,5 +1,9 @@
 -- Whole parts of an f32: from 1 on and below 2^23 by its bits, and from 2^23 on and below 2^64 the float is its own whole part. Assumes nothing.
-use Rattle.std.proofs.Common.{◌≡◌, ℕ, zero, suc, ◌+◌, ◌-◌, ◌*◌, ◌/◌, ◌%◌, ◌^◌, ◌<◌, ◌≤◌, min, Bool, true, false, cond, not, ◌&&◌, ◌||◌, T, eqb, ltb, leb, ℤ, pos, negsuc, sym, refl, ap, ◌∙◌, true≢false, le_trans, le_of_eq, lt_of_lt_of_le, lt_of_le_of_lt, le_of_lt, mul-le-mul_right, mod-lt, zero-lt-suc, mul_comm, div-lt_iff_lt-mul, lt_of_mul-lt-mul_right, mul-lt-mul_of_pos_right, one-mul, pow-suc, le-div_iff_mul-le, div-le_self, mul_right_comm, le_of_mul-le-mul_right, div-one, arith, ltb→lt, leb→le, pow_pos, pow-add, shr-shr, ltb-false, ltb-true, lt-ltb, eq-eqb, eqb-true}
+use Rattle.std.proofs.Common.{◌≡◌, ℕ, zero, suc, ◌+◌, ◌-◌, ◌*◌, ◌/◌, ◌%◌, ◌^◌, ◌<◌, ◌≤◌, min, Bool, true, false, cond, not, ◌&&◌, ◌||◌, T, eqb, ltb, leb, ℤ}
+use Rattle.std.proofs.Common.{pos, negsuc, sym, refl, ap, ◌∙◌, true≢false, le_trans, le_of_eq, lt_of_lt_of_le, lt_of_le_of_lt, le_of_lt, mul-le-mul_right}
+use Rattle.std.proofs.Common.{mod-lt, zero-lt-suc, mul_comm, div-lt_iff_lt-mul, lt_of_mul-lt-mul_right, mul-lt-mul_of_pos_right, one-mul, pow-suc}
+use Rattle.std.proofs.Common.{le-div_iff_mul-le, div-le_self, mul_right_comm, le_of_mul-le-mul_right, div-one, arith, ltb→lt, leb→le, pow_pos, pow-add, shr-shr}
+use Rattle.std.proofs.Common.{ltb-false, ltb-true, lt-ltb, eq-eqb, eqb-true}
 use Rattle.std.proofs.lemmas.Float as Floats
 use mathlib.Core.Bool.{false≢true}
 use native.Mathlib.Nat.{div-div-eq-div-mul, mul-div-mul_right}
@@ -86,9 +90,11 @@ uncapped n h = omega arith
 -- below 2^64 the whole part is the quotient of any fraction that the float equals
 pub cut_whole : (m : ℕ) (e : ℤ) → m * up e < 2 ^ 64 * down e → whole_part (fin false m e) ≡ m * up e / down e
 unfolding whole_part to_unsigned of_bits
-cut_whole m e h = go (le c1 (fin false m e)) (missed 0 m e) (lt (fin false m e) two_to64) (lt_power 64 (fin false m e) (m * up e) (down e) (down_pos e) (refl, refl) h)
+cut_whole m e h = go (le c1 (fin false m e)) (missed 0 m e) (lt (fin false m e) two_to64)
+    (lt_power 64 (fin false m e) (m * up e) (down e) (down_pos e) (refl, refl) h)
   where
-    go : (t : Bool) → (t ≡ false → m * up e < 2 ^ 0 * down e) → (u : Bool) → u ≡ true → cond (t && u) (min (m * up e / down e) (2 ^ 64 - 1)) 0 ≡ m * up e / down e
+    go : (t : Bool) → (t ≡ false → m * up e < 2 ^ 0 * down e) → (u : Bool) → u ≡ true
+        → cond (t && u) (min (m * up e / down e) (2 ^ 64 - 1)) 0 ≡ m * up e / down e
     go true f true r = uncapped (m * up e / down e) ((div-lt_iff_lt-mul (down_pos e)).1 h)
     go true f false r = absurd (false≢true r)
     go false f u r = let q : m * up e / down e < 1 = (div-lt_iff_lt-mul (down_pos e)).1 (omega (arith, f refl)) in omega arith
@@ -233,7 +239,8 @@ own_whole (suc m) (pos a) t h k =
     let w : whole_part (fin false (suc m) (pos a)) ≡ suc m * 2 ^ a = cut_whole (suc m) (pos a) k ∙ div-one (suc m * 2 ^ a) in
     ap (λ (n : ℕ). of_int binary32 (pos n)) w
     ∙ whole_unique binary32 (of_int binary32 (pos (suc m * 2 ^ a))) (fin false (suc m) (pos a)) false (suc m * 2 ^ a)
-    (of_int-fits binary32 (pos (suc m * 2 ^ a))) t (unfold of_int in exact (suc m * 2 ^ a) 1 (zero-lt-suc 0) (whole_dyadic (suc m) a (digits false m (pos a) t)) k) (refl, refl)
+    (of_int-fits binary32 (pos (suc m * 2 ^ a))) t (unfold of_int in exact (suc m * 2 ^ a) 1 (zero-lt-suc 0) (whole_dyadic (suc m) a (digits false m (pos a) t))
+    k) (refl, refl)
 
 -- ---- the four cases of `split`
 
@@ -297,7 +304,8 @@ strictly p q k u d h e l =
     let f : p ≡ k * u = omega (arith, e) in
     lt_of_mul-lt-mul_right u (lt_of_lt_of_le l (le_of_eq (ap (λ (z : ℕ). z * d) f ∙ mul_right_comm k u d)))
 
-close : (lo hi : Float) (n : ℕ) → HasValue lo false n 1 → HasValue hi false (n + 1) 1 → 0 < n → (m : ℕ) (e : ℤ) → le lo (fin false m e) ≡ true → lt (fin false m e) hi ≡ true
+close : (lo hi : Float) (n : ℕ) → HasValue lo false n 1 → HasValue hi false (n + 1) 1 → 0 < n → (m : ℕ) (e : ℤ) → le lo (fin false m e) ≡ true
+    → lt (fin false m e) hi ≡ true
     → Near (fin false m e) n (m * up e) (down e)
 unfolding le lt
 close nan hi n v w p m e h k = absurd v

@@ -1,5 +1,7 @@
 -- Laws on plain numbers: what `compare` gives, and a word's digits from its leading zeros. Assumes nothing.
-use Rattle.std.proofs.Common.{◌≡◌, ℕ, zero, suc, ◌+◌, ◌-◌, ◌*◌, ◌/◌, ◌%◌, ◌^◌, ◌<◌, ◌≤◌, T, pos, le→leb, sym, ap, ◌∙◌, subst, le_trans, le_of_eq, le_refl, lt_of_lt_of_le, le_of_suc-le-suc, not-suc-le-zero, mod-eq_of_lt, zero-lt-suc, mul_assoc, mul-lt-mul_of_pos_right, pow-suc, lt_of_not-le, sub-add_cancel, not-le_of_lt, arith, pow_pos, pow_mono, pow-add}
+use Rattle.std.proofs.Common.{◌≡◌, ℕ, zero, suc, ◌+◌, ◌-◌, ◌*◌, ◌/◌, ◌%◌, ◌^◌, ◌<◌, ◌≤◌, T, pos, le→leb, sym, ap, ◌∙◌, subst, le_trans, le_of_eq, le_refl}
+use Rattle.std.proofs.Common.{lt_of_lt_of_le, le_of_suc-le-suc, not-suc-le-zero, mod-eq_of_lt, zero-lt-suc, mul_assoc, mul-lt-mul_of_pos_right, pow-suc}
+use Rattle.std.proofs.Common.{lt_of_not-le, sub-add_cancel, not-le_of_lt, arith, pow_pos, pow_mono, pow-add}
 use Prim.Native.Nat.compare
 use Prim.Native.Nat.{Ordering, compare}
 use native.Mathlib.Decide.{dec_lt}
@@ -42,7 +44,8 @@ size_gt n j h = lt_of_not-le (λ (g : size n ≤ j). not-le_of_lt (lt_of_lt_of_l
 pub size_zeros : (w : ℕ) → w < 2 ^ 32 → count_leading_zeros 32 w + size w ≡ 32
 size_zeros w h =
     let s : size w ≤ 32 = size-le w 32 h in
-    let e : 32 - size w ≡ count_leading_zeros 32 w = leading_unique 32 w (32 - size w) (size w) (sub-add_cancel s) (size-lt w) (half w (size w) (size_reaches w)) in
+    let e : 32 - size w ≡ count_leading_zeros 32 w = leading_unique 32 w (32 - size w) (size w) (sub-add_cancel s) (size-lt w)
+    (half w (size w) (size_reaches w)) in
     omega arith
 
 -- ---- the unit: 2 to the number of w's binary digits beyond 24, the distance of the floats around w

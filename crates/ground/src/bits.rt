@@ -3,7 +3,8 @@ ghost use Rattle.std.specs.Prelude.{◌≡◌, true, from_bits, to_bits};
 ghost use Rattle.std.specs.Float.{binary32};
 ghost use Rattle.ground.specs.Floats.{same_float};
 
-// The float of a pattern, the NaN of each NaN's, which `f32::from_bits` does not take. It has a contract in this repository's words, which two must-fail edits try.
+// The float of a pattern, the NaN of each NaN's, which `f32::from_bits` does not take. It has a contract in this repository's words, which two must-fail edits
+// try.
 pub fn float_of(pattern: u32) -> f32
     ensures { result ≡ from_bits binary32 pattern }
 {

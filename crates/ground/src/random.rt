@@ -49,7 +49,8 @@ fn digits_of(word: u32, zeros: u32) -> u32
     ((shifted + 127 + shifted / 256 % 2) / 256) as u32
 }
 
-// `word as f32`: the nearest f32, a tie to the even one. A cast that rounds is not proved: 01 'Drawing noise' has the rounding worked out from the leading zeros.
+// `word as f32`: the nearest f32, a tie to the even one. A cast that rounds is not proved: 01 'Drawing noise' has the rounding worked out from the leading
+// zeros.
 #[tactic(auto, using(crate::proofs::Words::wide, crate::proofs::Words::digits_exact, crate::proofs::Rounding::word_float_lem))]
 pub fn word_to_f32(word: u32) -> f32
     ensures { result ≡ word_float word }

@@ -46,7 +46,7 @@ pub extern "C" fn leaves_read_hermite(line: &[f32], write_ptr: usize, delay: f32
 }
 
 // The place, a slice of 1, moves on.
-#[tactic(auto, unfolding(crate::specs::Leaves::in_line, crate::specs::Leaves::allpass_at), using(crate::proofs::Held::over_one, crate::proofs::Held::over_other, crate::proofs::Held::one_kept))]
+#[tactic(auto, unfolding(crate::specs::Leaves::in_line, crate::specs::Leaves::allpass_at), using(crate::proofs::Held::over_one, crate::proofs::Held::over_other, crate::proofs::Held::one_kept),)]
 #[unsafe(no_mangle)]
 pub extern "C" fn leaves_allpass(
     line: &mut [f32],

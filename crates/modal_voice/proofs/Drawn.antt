@@ -15,7 +15,8 @@ use Rattle.modes.specs.declared.resonator.Partial.{Partial}
 use Rattle.modes.specs.declared.resonator.Resonator.{Resonator}
 use Rattle.modal_voice.specs.declared.modal_voice.ModalVoice.{ModalVoice}
 use Rattle.modes.specs.Resonator.{mode_of, low_step, svf_process_low, band_step, modes_from, batch_step, in_batches, batches, resonator_process}
-use Rattle.modal_voice.specs.ModalVoice.{cutoff_for, resonance_for, excitation, held_after, excitation_words, excitation_counts, Excited, excite_of, sound_of, After, render_of}
+use Rattle.modal_voice.specs.ModalVoice.{cutoff_for, resonance_for, excitation, held_after, excitation_words, excitation_counts, Excited, excite_of, sound_of}
+use Rattle.modal_voice.specs.ModalVoice.{After, render_of}
 use Rattle.modal_voice.proofs.Excitations.{excitation_draws}
 
 -- ---- the first half

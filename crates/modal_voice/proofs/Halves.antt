@@ -21,7 +21,8 @@ use Rattle.modal_voice.specs.declared.modal_voice.ModalVoice.{ModalVoice}
 use Rattle.modal_voice.specs.declared.modal_voice.LowPass.{LowPass}
 use Rattle.modal_voice.specs.OneLoop.{low_pass_for}
 use Rattle.modes.specs.Resonator.{svf_process_low, resonator_process}
-use Rattle.modal_voice.specs.ModalVoice.{cutoff_for, strike_of, clicked, excitation, held_after, excitation_words, excitation_counts, excite_of, Sounded, sound_of, render_of}
+use Rattle.modal_voice.specs.ModalVoice.{cutoff_for, strike_of, clicked, excitation, held_after, excitation_words, excitation_counts, excite_of, Sounded}
+use Rattle.modal_voice.specs.ModalVoice.{sound_of, render_of}
 use Rattle.modal_voice.proofs.Excitations.{excitation_draws}
 
 -- ---- the click

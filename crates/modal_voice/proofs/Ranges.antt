@@ -13,7 +13,8 @@ use Rattle.ground.specs.Floats.{whole_part, min_f, clamp_f}
 use Rattle.utils.specs.Units.{high_index, low_index, semitones_to_ratio}
 use Rattle.utils.specs.Utils.{interpolate}
 use Rattle.bounds.proofs.Order.{and_true, finite_not_lt, finite_not_nan, lt_of_le}
-use Rattle.bounds.proofs.Bounds.{int, minus, part, Between, encloses, inside, is_in, const_in, in_test, mul_in, min_in, clamp_in, clamp_most, cond_in, finite_in}
+use Rattle.bounds.proofs.Bounds.{int, minus, part, Between, encloses, inside, is_in, const_in, in_test, mul_in, min_in, clamp_in, clamp_most, cond_in}
+use Rattle.bounds.proofs.Bounds.{finite_in}
 use Rattle.bounds.proofs.Indices.{float_under_one, lt_one, is_one, whole_below, high_in, low_in}
 use Rattle.noise.specs.declared.excitation.Knobs.{Knobs}
 use Rattle.noise.specs.Excitation.{raised}

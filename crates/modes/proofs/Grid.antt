@@ -1,7 +1,10 @@
 -- Where a product of two f32 is subnormal, the product in f64, put on the grid of the least f32, is the product in f32. Assumes nothing.
 use mathlib.Core.Path.{◌≡◌, refl, sym, ap, ◌∙◌, subst}
 use Prim.Native.Nat.{ℕ, zero, suc, ◌+◌, ◌-◌, ◌*◌, ◌/◌, ◌%◌, ◌^◌, ◌≤◌, ◌<◌, compare, Ordering}
-use native.Mathlib.Nat.{one-mul, zero-mul, zero-lt-suc, lt_irrefl, le_trans, le_of_eq, lt_of_lt_of_le, lt_of_le_of_lt, lt_of_not-le, not-le_of_lt, mul-one, mul_comm, mul_assoc, mul_left_comm, mul_right_comm, mul-mul-mul_comm, mul-pos, mul-lt-mul_of_pos_right, mul-le-mul_right, le-div_iff_mul-le, div-lt_iff_lt-mul, add-mul-div_right, add-mul-mod_self_right, le_of_lt, mul-le-mul, lt_of_mul-lt-mul_right, eq_of_mul-eq-mul_right, add-mul}
+use native.Mathlib.Nat.{one-mul, zero-mul, zero-lt-suc, lt_irrefl, le_trans, le_of_eq, lt_of_lt_of_le, lt_of_le_of_lt, lt_of_not-le, not-le_of_lt, mul-one}
+use native.Mathlib.Nat.{mul_comm, mul_assoc, mul_left_comm, mul_right_comm, mul-mul-mul_comm, mul-pos, mul-lt-mul_of_pos_right, mul-le-mul_right}
+use native.Mathlib.Nat.{le-div_iff_mul-le, div-lt_iff_lt-mul, add-mul-div_right, add-mul-mod_self_right, le_of_lt, mul-le-mul, lt_of_mul-lt-mul_right}
+use native.Mathlib.Nat.{eq_of_mul-eq-mul_right, add-mul}
 use native.Mathlib.Omega.{arith}
 use mathlib.Core.Bool.{Bool, true, false, not, ◌&&◌, ◌||◌, cond, beq, true≢false, false≢true}
 use lib.IntN.{ℤ, pos, negsuc}

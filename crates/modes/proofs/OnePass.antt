@@ -18,8 +18,10 @@ use Rattle.modes.specs.declared.resonator.Partial.{Partial}
 use Rattle.modes.specs.declared.resonator.Resonator.{Resonator}
 use Rattle.modes.specs.declared.resonator.States.{States}
 use Rattle.modes.specs.declared.resonator.Tuned.{Tuned}
-use Rattle.modes.specs.Resonator.{band_step, mode_at, modes_from, batch_step, in_batches, batches, nth_harmonic_compensation, q_loss_of, first_of, resonator_process}
-use Rattle.modes.specs.OnePass.{partial_at, tuned, modes_of, modes_for, put_batch, no_batch, states_of, batch_at, filters_of, batch_sum, add_batches, frame_of, one_pass}
+use Rattle.modes.specs.Resonator.{band_step, mode_at, modes_from, batch_step, in_batches, batches, nth_harmonic_compensation, q_loss_of, first_of}
+use Rattle.modes.specs.Resonator.{resonator_process}
+use Rattle.modes.specs.OnePass.{partial_at, tuned, modes_of, modes_for, put_batch, no_batch, states_of, batch_at, filters_of, batch_sum, add_batches, frame_of}
+use Rattle.modes.specs.OnePass.{one_pass}
 use Rattle.modes.proofs.Frame.{FullStates, states_tab, states_written}
 
 -- ---- what the modes keep, in batches and side by side

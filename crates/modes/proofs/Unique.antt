@@ -1,7 +1,8 @@
 -- Two floats that fit a format and have one value are one float. Assumes nothing.
 use mathlib.Core.Path.{◌≡◌, refl, sym, ap, ◌∙◌, subst}
 use Prim.Native.Nat.{ℕ, zero, suc, ◌+◌, ◌*◌, ◌%◌, ◌^◌, ◌<◌}
-use native.Mathlib.Nat.{mul-one, mul_assoc, mul_left_comm, mul_right_comm, zero-mul, zero-lt-suc, mul-pos, lt_irrefl, pow-succ', pow-suc, eq_of_mul-eq-mul_right}
+use native.Mathlib.Nat.{mul-one, mul_assoc, mul_left_comm, mul_right_comm, zero-mul, zero-lt-suc, mul-pos, lt_irrefl, pow-succ', pow-suc}
+use native.Mathlib.Nat.{eq_of_mul-eq-mul_right}
 use native.Mathlib.Omega.{arith}
 use mathlib.Core.Bool.{Bool, ◌&&◌}
 use lib.IntN.{ℤ, pos, negsuc}

@@ -11,5 +11,6 @@ module _ {t t' t2 t2' o o' a a' : List Float} (e : t ≡ t') (e2 : t2 ≡ t2') (
   pub lent_back : (P : Bufs → Type 0) → P (record { temp = t'; temp2 = t2'; out = o'; aux = a' }) → P (record { temp = t; temp2 = t2; out = o; aux = a })
   lent_back P = subst P (λ i. record { temp = sym e i; temp2 = sym e2 i; out = sym eo i; aux = sym ea i })
 
-  pub lent_is : {A : Type 0} {x : A} (f : Bufs → A) → x ≡ f (record { temp = t'; temp2 = t2'; out = o'; aux = a' }) → x ≡ f (record { temp = t; temp2 = t2; out = o; aux = a })
+  pub lent_is : {A : Type 0} {x : A} (f : Bufs → A) → x ≡ f (record { temp = t'; temp2 = t2'; out = o'; aux = a' })
+      → x ≡ f (record { temp = t; temp2 = t2; out = o; aux = a })
   lent_is f p = p ∙ ap f (λ i. record { temp = sym e i; temp2 = sym e2 i; out = sym eo i; aux = sym ea i })

@@ -46,7 +46,9 @@ raises c d =
     encloses difference c1 c1 c d c0 u && (encloses product c0 c0·25 c0 u c0 v && encloses sum c d c0 v c0 c1)
 
 cuts : List Float
-cuts = part 1 0 ∷ part 3 1 ∷ part 7 2 ∷ part 15 3 ∷ part 31 4 ∷ part 63 5 ∷ part 127 6 ∷ part 255 7 ∷ part 511 8 ∷ part 1023 9 ∷ part 2047 10 ∷ part 4095 11 ∷ part 8191 12 ∷ part 16383 13 ∷ part 32767 14 ∷ part 65535 15 ∷ part 131071 16 ∷ part 262143 17 ∷ part 524287 18 ∷ part 1048575 19 ∷ part 2097151 20 ∷ part 4194303 21 ∷ part 8388607 22 ∷ part 16777215 23 ∷ c1 ∷ []
+cuts = part 1 0 ∷ part 3 1 ∷ part 7 2 ∷ part 15 3 ∷ part 31 4 ∷ part 63 5 ∷ part 127 6 ∷ part 255 7 ∷ part 511 8 ∷ part 1023 9 ∷ part 2047 10 ∷ part 4095 11
+    ∷ part 8191 12 ∷ part 16383 13 ∷ part 32767 14 ∷ part 65535 15 ∷ part 131071 16 ∷ part 262143 17 ∷ part 524287 18 ∷ part 1048575 19 ∷ part 2097151 20
+    ∷ part 4194303 21 ∷ part 8388607 22 ∷ part 16777215 23 ∷ c1 ∷ []
 
 pub raised_in : {accent x : Float} → Knob accent → Knob x → Knob (raised accent x)
 unfolding raised encloses raises cuts of_bits
@@ -62,7 +64,8 @@ raised_in {accent} {x} a p =
     add_in k.bound p₃ c0 c1 s.1
 
 -- ---- the semitones of the excitation's cutoff, over a range of 36 to 72
-pub exciter_in : {brightness range : Float} → Knob brightness → Between c36 range c72 → Between (minus 36) ((brightness ⊗ (c2 ⊖ brightness) ⊖ c0·5) ⊗ range) (int 108)
+pub exciter_in : {brightness range : Float} → Knob brightness → Between c36 range c72
+    → Between (minus 36) ((brightness ⊗ (c2 ⊖ brightness) ⊖ c0·5) ⊗ range) (int 108)
 unfolding encloses of_bits
 exciter_in b r =
     let p₁ = sub_in (const_in c2 tt) b c1 c2 tt in

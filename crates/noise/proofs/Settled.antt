@@ -1,5 +1,6 @@
 -- A filter over a block that ends in silence: laws over plain values. Assumes nothing.
-use Rattle.std.proofs.Common.{◌≡◌, ℕ, zero, suc, ◌+◌, ◌-◌, ◌*◌, ◌<◌, ◌≤◌, min, List, [], ◌∷◌, ◌++◌, length, get_or, drop, set, sym, refl, ap, ◌∙◌, arith, le_of_suc-le-suc, not-suc-le-zero, add-one, length-set}
+use Rattle.std.proofs.Common.{◌≡◌, ℕ, zero, suc, ◌+◌, ◌-◌, ◌*◌, ◌<◌, ◌≤◌, min, List, [], ◌∷◌, ◌++◌, length, get_or, drop, set, sym, refl, ap, ◌∙◌, arith}
+use Rattle.std.proofs.Common.{le_of_suc-le-suc, not-suc-le-zero, add-one, length-set}
 use Prim.Native.Nat.{◌/◌, ◌%◌}
 use native.Mathlib.Nat.{div-add-mod, zero-mod}
 use native.Mathlib.Decide.{dec_lt}
@@ -153,11 +154,15 @@ module _ {F : Type 0} (step : F → Float → F × Float) (f : F) (xs ys : List 
           let t = c.turns in
           stored_turn v (omega arith)
           (ap (λ (zs : List Float). get_or zs (i - r.period) nan) v.so_far ∙ got (given step f xs) i (i - r.period) (drop i ys) nan (omega arith)
-          ∙ (λ j. (step (sym (again i l k) j) ((quiet_there (i - r.period) (omega arith) (omega arith) ∙ sym (quiet_there i (omega arith) (omega arith))) j)).1))
+          ∙ (λ j. (step (sym (again i l k) j) ((quiet_there (i - r.period) (omega arith) (omega arith) ∙ sym (quiet_there i (omega arith) (omega arith)))
+          j)).1))
 
       pub settled_end : {n i : ℕ} {g : F} {ws : List Float} → n ≡ min (length xs) (length ys) → Stored (given step f xs) ys i ws → i ≡ n
           → g ≡ after (quiet step) ((n - r.frame) % r.period) r.filter → ◌≡◌ {A = F × List Float} (g, ws) (filtered step f xs ys)
-      settled_end {n} {i} {g} {ws} en v ei e = ap (λ (h : F). (h, ws)) (e ∙ ap (after (quiet step) ((n - r.frame) % r.period)) c.filter ∙ last (dec_lt r.frame n)) ∙ ap (λ (zs : List Float). (before step f xs n, zs)) (v.so_far ∙ ap (λ (k : ℕ). tab k (given step f xs) ++ drop k ys) ei) ∙ ap (λ (k : ℕ). (before step f xs k, tab k (given step f xs) ++ drop k ys)) en ∙ sym (told step f xs ys)
+      settled_end {n} {i} {g} {ws} en v ei e = ap (λ (h : F). (h, ws))
+          (e ∙ ap (after (quiet step) ((n - r.frame) % r.period)) c.filter ∙ last (dec_lt r.frame n))
+          ∙ ap (λ (zs : List Float). (before step f xs n, zs)) (v.so_far ∙ ap (λ (k : ℕ). tab k (given step f xs) ++ drop k ys) ei)
+          ∙ ap (λ (k : ℕ). (before step f xs k, tab k (given step f xs) ++ drop k ys)) en ∙ sym (told step f xs ys)
         where
           last : Dec (r.frame < n) → after (quiet step) ((n - r.frame) % r.period) (before step f xs r.frame) ≡ before step f xs n
           last (yes l) =

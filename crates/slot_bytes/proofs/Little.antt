@@ -16,7 +16,8 @@ use lib.Ieee.{Float}
 use Rattle.string_voice.specs.declared.string_voice.StringVoice.{StringVoice}
 use Rattle.modal_voice.specs.declared.modal_voice.ModalVoice.{ModalVoice}
 use Rattle.slots.specs.declared.slots.Slot.{Slot}
-use Rattle.slot_bytes.specs.Layout.{ModalF32, flag_of, encode_slot, float_words, svf_words, dc_words, string_words, voice_words, mode_words, batch_words, modal_words, slot_words}
+use Rattle.slot_bytes.specs.Layout.{ModalF32, flag_of, encode_slot, float_words, svf_words, dc_words, string_words, voice_words, mode_words, batch_words}
+use Rattle.slot_bytes.specs.Layout.{modal_words, slot_words}
 use Rattle.ground.specs.Each.{Each}
 use Rattle.slot_bytes.specs.Words.{word_of, words_in, bytes, put_words, each}
 
@@ -53,7 +54,8 @@ three : (n : ℕ) → n + 3 ≡ suc (suc (suc n))
 three n = omega arith
 
 pub stored : (k w : ℕ) (bs : List ℕ) → 4 * k + 4 ≤ length bs
-    → set (set (set (set bs (4 * k) (w % 256)) (4 * k + 1) (w / 256 % 256)) (4 * k + 2) (w / 65536 % 256)) (4 * k + 3) (w / 16777216 % 256) ≡ put_words k (w ∷ []) bs
+    → set (set (set (set bs (4 * k) (w % 256)) (4 * k + 1) (w / 256 % 256)) (4 * k + 2) (w / 65536 % 256)) (4 * k + 3) (w / 16777216 % 256) ≡ put_words k
+    (w ∷ []) bs
 unfolding put_words bytes put
 stored k w bs h =
     let n = 4 * k in
@@ -61,11 +63,13 @@ stored k w bs h =
     let s : set (set (set (set bs n (w % 256)) (n + 1) (w / 256 % 256)) (n + 2) (w / 65536 % 256)) (n + 3) (w / 16777216 % 256) ≡ sets bs n xs =
     λ i. set (set (set (set bs n (w % 256)) (one n i) (w / 256 % 256)) (two n i) (w / 65536 % 256)) (three n i) (w / 16777216 % 256) in
     let e : sets bs n xs ≡ (take n bs ++ xs) ++ drop (n + 4) bs = sets-eq xs bs n h in
-    let d : take n bs ++ (xs ++ drop (n + 4) bs) ≡ take n bs ++ (xs ++ drop 4 (drop n bs)) = ap (λ (ys : List ℕ). take n bs ++ (xs ++ ys)) (sym (drop-drop 4 n bs)) in
+    let d : take n bs ++ (xs ++ drop (n + 4) bs) ≡ take n bs ++ (xs ++ drop 4 (drop n bs)) = ap (λ (ys : List ℕ). take n bs ++ (xs ++ ys))
+    (sym (drop-drop 4 n bs)) in
     s ∙ e ∙ append_assoc (take n bs) xs (drop (n + 4) bs) ∙ d
 
 -- four bytes copied over are a word written: j is the code's end less its start
-pub stored_row : (k w j : ℕ) (bs : List ℕ) {xs : List ℕ} → j ≡ 4 → xs ≡ take 4 (to_le_bytes w64 w) → take (4 * k) bs ++ (xs ++ drop j (drop (4 * k) bs)) ≡ put_words k (w ∷ []) bs
+pub stored_row : (k w j : ℕ) (bs : List ℕ) {xs : List ℕ} → j ≡ 4 → xs ≡ take 4 (to_le_bytes w64 w)
+    → take (4 * k) bs ++ (xs ++ drop j (drop (4 * k) bs)) ≡ put_words k (w ∷ []) bs
 unfolding put_words bytes put
 stored_row k w j bs ej e = λ i. take (4 * k) bs ++ (e i ++ drop (ej i) (drop (4 * k) bs))
 
@@ -112,7 +116,8 @@ put_put a m n b k ys zs xs ly h eb ek =
     ∙ ap (λ (p : List ℕ). take a xs ++ p) (sym (append_assoc ys zs (drop k (drop a xs))))
 
 -- words behind words: a chain of writes is a chain of these
-pub wrote : (k j : ℕ) (ws vs bs : List ℕ) {cs ds : List ℕ} → cs ≡ put_words k ws bs → ds ≡ put_words j vs cs → j ≡ k + length ws → 4 * k + 4 * length ws ≤ length bs
+pub wrote : (k j : ℕ) (ws vs bs : List ℕ) {cs ds : List ℕ} → cs ≡ put_words k ws bs → ds ≡ put_words j vs cs → j ≡ k + length ws
+    → 4 * k + 4 * length ws ≤ length bs
     → ds ≡ put_words k (ws ++ vs) bs
 unfolding put_words
 wrote k j ws vs bs e f ej h =
@@ -130,7 +135,8 @@ whole_slot : (ws bs : List ℕ) (v : ℕ) → length bs ≡ 393 → length ws �
 unfolding put_words put
 whole_slot ws bs v lb lw =
     let l : length (bytes ws) ≡ 392 = length_bytes ws ∙ ap (λ (n : ℕ). 4 * n) lw in
-    let d : drop 392 bs ≡ get_or bs 392 0 ∷ [] = drop-cons bs 392 0 (omega arith) ∙ ap (λ (q : List ℕ). get_or bs 392 0 ∷ q) (drop_of_length-le bs {i = 393} (omega arith)) in
+    let d : drop 392 bs ≡ get_or bs 392 0 ∷ [] = drop-cons bs 392 0 (omega arith)
+    ∙ ap (λ (q : List ℕ). get_or bs 392 0 ∷ q) (drop_of_length-le bs {i = 393} (omega arith)) in
     ap (λ (n : ℕ). set (bytes ws ++ drop (4 * n) bs) 392 v) lw
     ∙ ap (λ (q : List ℕ). set (bytes ws ++ q) 392 v) d
     ∙ set_at (bytes ws) (get_or bs 392 0) [] v 392 l
@@ -152,7 +158,8 @@ module _ {A : Type 0} (f : A → List ℕ) where
     unfolding each
     length_each [] = sym (mul-zero n)
     length_each (x ∷ xs) =
-        length-append (f x) (each f xs) ∙ ap (λ (j : ℕ). j + length (each f xs)) (sized x) ∙ ap (λ (j : ℕ). n + j) (length_each xs) ∙ add_comm n (n * length xs) ∙ sym (mul-suc n (length xs))
+        length-append (f x) (each f xs) ∙ ap (λ (j : ℕ). j + length (each f xs)) (sized x) ∙ ap (λ (j : ℕ). n + j) (length_each xs) ∙ add_comm n (n * length xs)
+        ∙ sym (mul-suc n (length xs))
 
 -- the words of the first i are written from the k-th on
 pub record Written {A : Type 0} (f : A → List ℕ) (k : ℕ) (xs : List A) (bs₀ : List ℕ) (i : ℕ) (bs : List ℕ) : Type 0 where
@@ -164,7 +171,8 @@ module _ {A : Type 0} {f : A → List ℕ} (k : ℕ) {xs : List A} {bs₀ : List
   unfolding put_words put bytes each
   written_begin = record { is = sym (take-append-drop (4 * k) bs₀); same = refl }
 
-  pub written_turn : (n : ℕ) → ((x : A) → length (f x) ≡ n) → {i : ℕ} {bs cs : List ℕ} (j : ℕ) (d : A) → Written f k xs bs₀ i bs → i < length xs → cs ≡ put_words j (f (get_or xs i d)) bs
+  pub written_turn : (n : ℕ) → ((x : A) → length (f x) ≡ n) → {i : ℕ} {bs cs : List ℕ} (j : ℕ) (d : A) → Written f k xs bs₀ i bs → i < length xs
+      → cs ≡ put_words j (f (get_or xs i d)) bs
       → j ≡ k + n * i → 4 * j + 4 * n ≤ length bs₀ → Written f k xs bs₀ (i + 1) cs
   written_turn n sized {i} {bs} {cs} j d w l e ej h =
       let x = get_or xs i d in
@@ -172,7 +180,8 @@ module _ {A : Type 0} {f : A → List ℕ} (k : ℕ) {xs : List A} {bs₀ : List
       let m : length (each f (take i xs)) ≡ n * i = length_each f n sized (take i xs) ∙ ap (λ (q : ℕ). n * q) t in
       let z : length (f x) ≡ n = sized x in
       let s : each f (take (i + 1) xs) ≡ each f (take i xs) ++ f x =
-      ap (λ (q : ℕ). each f (take q xs)) (add-one i) ∙ ap (each f) (take-suc xs i d l) ∙ each_append f (take i xs) (x ∷ []) ∙ ap (λ (q : List ℕ). each f (take i xs) ++ q) (each_one f x) in
+      ap (λ (q : ℕ). each f (take q xs)) (add-one i) ∙ ap (each f) (take-suc xs i d l) ∙ each_append f (take i xs) (x ∷ [])
+      ∙ ap (λ (q : List ℕ). each f (take i xs) ++ q) (each_one f x) in
       let v : 4 * k + 4 * length (each f (take i xs)) ≤ length bs₀ = omega arith in
       let is : cs ≡ put_words k (each f (take i xs) ++ f x) bs₀ = wrote k j (each f (take i xs)) (f x) bs₀ w.is e (omega arith) v in
       let b : length (each f (take i xs) ++ f x) ≡ n * i + n = length-append (each f (take i xs)) (f x) ∙ (λ q. m q + z q) in
@@ -247,7 +256,8 @@ flag_is true = refl
 flag_is false = refl
 
 -- the words of a slot are written, and then the flag
-pub whole_wrote : (s : Slot) (v : ℕ) (bs : List ℕ) {es : List ℕ} → es ≡ put_words 0 (slot_words s) bs → length bs ≡ 393 → ModalF32 s.modal → v ≡ flag_of s.modal.held → set es 392 v ≡ encode_slot s
+pub whole_wrote : (s : Slot) (v : ℕ) (bs : List ℕ) {es : List ℕ} → es ≡ put_words 0 (slot_words s) bs → length bs ≡ 393 → ModalF32 s.modal
+    → v ≡ flag_of s.modal.held → set es 392 v ≡ encode_slot s
 unfolding encode_slot
 whole_wrote s v bs e l o ev =
     ap (λ (q : List ℕ). set q 392 v) e ∙ whole_slot (slot_words s) bs v l (length_slot s o) ∙ ap (λ (q : ℕ). bytes (slot_words s) ++ (q ∷ [])) ev
@@ -264,4 +274,5 @@ slot_wrote s v bs e f g l o ev =
 pub length_slot_bytes : (s : Slot) → ModalF32 s.modal → length (encode_slot s) ≡ 393
 unfolding encode_slot
 length_slot_bytes s f =
-    length-append (bytes (slot_words s)) (flag_of s.modal.held ∷ []) ∙ ap (λ (n : ℕ). n + 1) (length_bytes (slot_words s) ∙ ap (λ (n : ℕ). 4 * n) (length_slot s f))
+    length-append (bytes (slot_words s)) (flag_of s.modal.held ∷ [])
+    ∙ ap (λ (n : ℕ). n + 1) (length_bytes (slot_words s) ∙ ap (λ (n : ℕ). 4 * n) (length_slot s f))

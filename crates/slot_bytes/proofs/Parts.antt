@@ -110,7 +110,10 @@ pub bank_after : (bs new : List ℕ) (slot : ℕ) (x : Slot) → length bs ≡ 3
     → decode_bank (with_bytes slot new bs) ≡ with_slot (decode_bank bs) slot x
 unfolding decode_bank
 bank_after bs new slot x l h k e =
-    λ t. record { slots = (ap (map decode_slot) (parts_put 8 slot new bs h (omega arith) k) ∙ map_set decode_slot (parts 8 bs) slot new ∙ ap (set (map decode_slot (parts 8 bs)) slot) e) t }
+    λ t. record {
+      slots = (ap (map decode_slot) (parts_put 8 slot new bs h (omega arith) k) ∙ map_set decode_slot (parts 8 bs) slot new
+          ∙ ap (set (map decode_slot (parts 8 bs)) slot) e) t;
+    }
 
 -- what the code leaves where it writes a slot's part
 pub put_cut : (bs new : List ℕ) (slot : ℕ) {zs : List ℕ} → zs ≡ new

@@ -20,8 +20,10 @@ use Rattle.slot_bytes.specs.Words.{word_of, words_in, bytes, put_words, each}
 use Rattle.slots.specs.declared.slots.Slot.{Slot}
 use Rattle.ground.proofs.Bools as bools
 use Rattle.ground.specs.Each.{Each}
-use Rattle.slot_bytes.specs.Layout.{F32, BatchF32, ModalF32, bits, float_in, floats_in, has_no_nan, mode_in, batch_in, modal_in, slot_in, decode_slot, float_words, mode_words, batch_words, voice_words, modal_words, slot_words, flag_of, encode_slot}
-use Rattle.slot_bytes.proofs.Little.{stored, bytes_append, length_bytes, whole_wrote, length_voice, length_modal, Written, written_begin, written_turn, written_end}
+use Rattle.slot_bytes.specs.Layout.{F32, BatchF32, ModalF32, bits, float_in, floats_in, has_no_nan, mode_in, batch_in, modal_in, slot_in, decode_slot}
+use Rattle.slot_bytes.specs.Layout.{float_words, mode_words, batch_words, voice_words, modal_words, slot_words, flag_of, encode_slot}
+use Rattle.slot_bytes.proofs.Little.{stored, bytes_append, length_bytes, whole_wrote, length_voice, length_modal, Written, written_begin, written_turn}
+use Rattle.slot_bytes.proofs.Little.{written_end}
 
 -- ---- a word
 
@@ -43,15 +45,18 @@ module _ (a b c d : ℕ) (p : a < 256) (q : b < 256) (r : c < 256) (s : d < 256)
   byte_0 = let e = div-add-mod w 256 in let m = div_1 in omega arith
 
   pub byte_1 : w / 256 % 256 ≡ b
-  byte_1 = let e = div-add-mod (w / 256) 256 in let m = div_1 in let n = div_2 in let o : w / 256 / 256 ≡ w / 65536 = div-div-eq-div-mul w 256 256 in omega arith
+  byte_1 = let e = div-add-mod (w / 256) 256 in let m = div_1 in let n = div_2 in let o : w / 256 / 256 ≡ w / 65536 = div-div-eq-div-mul w 256 256 in omega
+      arith
 
   pub byte_2 : w / 65536 % 256 ≡ c
-  byte_2 = let e = div-add-mod (w / 65536) 256 in let m = div_2 in let n = div_3 in let o : w / 65536 / 256 ≡ w / 16777216 = div-div-eq-div-mul w 65536 256 in omega arith
+  byte_2 = let e = div-add-mod (w / 65536) 256 in let m = div_2 in let n = div_3 in let o : w / 65536 / 256 ≡ w / 16777216 = div-div-eq-div-mul w 65536 256
+      in omega arith
 
   pub byte_3 : w / 16777216 % 256 ≡ d
   byte_3 = ap (λ (n : ℕ). n % 256) div_3 ∙ mod-eq_of_lt s
 
-pub word_stands : (k : ℕ) (bs : List ℕ) → 4 * k + 4 ≤ length bs → get_or bs (4 * k) 0 < 256 → get_or bs (4 * k + 1) 0 < 256 → get_or bs (4 * k + 2) 0 < 256 → get_or bs (4 * k + 3) 0 < 256
+pub word_stands : (k : ℕ) (bs : List ℕ) → 4 * k + 4 ≤ length bs → get_or bs (4 * k) 0 < 256 → get_or bs (4 * k + 1) 0 < 256 → get_or bs (4 * k + 2) 0 < 256
+    → get_or bs (4 * k + 3) 0 < 256
     → put_words k (word_of (get_or bs (4 * k) 0) (get_or bs (4 * k + 1) 0) (get_or bs (4 * k + 2) 0) (get_or bs (4 * k + 3) 0) ∷ []) bs ≡ bs
 word_stands k bs h p q r s =
     let n = 4 * k in
@@ -60,7 +65,8 @@ word_stands k bs h p q r s =
     let c = get_or bs (n + 2) 0 in
     let d = get_or bs (n + 3) 0 in
     sym (stored k (word_of a b c d) bs h)
-    ∙ (λ i. set (set (set (set bs n (byte_0 a b c d p q r s i)) (n + 1) (byte_1 a b c d p q r s i)) (n + 2) (byte_2 a b c d p q r s i)) (n + 3) (byte_3 a b c d p q r s i))
+    ∙ (λ i. set (set (set (set bs n (byte_0 a b c d p q r s i)) (n + 1) (byte_1 a b c d p q r s i)) (n + 2) (byte_2 a b c d p q r s i)) (n + 3)
+    (byte_3 a b c d p q r s i))
     ∙ ap (λ (l : List ℕ). set (set (set l (n + 1) b) (n + 2) c) (n + 3) d) (set-get_or bs n 0)
     ∙ ap (λ (l : List ℕ). set (set l (n + 2) c) (n + 3) d) (set-get_or bs (n + 1) 0)
     ∙ ap (λ (l : List ℕ). set l (n + 3) d) (set-get_or bs (n + 2) 0)
@@ -87,11 +93,13 @@ tested w = other (w % 2147483648) 2139095040 ∙ ap not (sym (nan_bits_above bin
         by true e = ap not (sym (le-ltb b a (leb-true a b e)))
         by false e = ap not (sym (lt-ltb b a (leb-false a b e)))
 
-pub float_stands : (k w : ℕ) (bs : List ℕ) → w < 2 ^ 32 → w ≡ get_or (words_in bs) k 0 → put_words k (w ∷ []) bs ≡ bs → not (is_nan (float_in (words_in bs) k)) ≡ true
+pub float_stands : (k w : ℕ) (bs : List ℕ) → w < 2 ^ 32 → w ≡ get_or (words_in bs) k 0 → put_words k (w ∷ []) bs ≡ bs
+    → not (is_nan (float_in (words_in bs) k)) ≡ true
     → put_words k (float_words (float_in (words_in bs) k)) bs ≡ bs
 unfolding float_words
 float_stands k w bs h e s n =
-    let f : nan_bits binary32 w ≡ false = nan_bits_is binary32 w ∙ ap (λ (v : ℕ). is_nan (of_bits binary32 v)) e ∙ not-true (is_nan (float_in (words_in bs) k)) n in
+    let f : nan_bits binary32 w ≡ false = nan_bits_is binary32 w ∙ ap (λ (v : ℕ). is_nan (of_bits binary32 v)) e
+    ∙ not-true (is_nan (float_in (words_in bs) k)) n in
     ap (λ (v : ℕ). put_words k (bits (of_bits binary32 v) ∷ []) bs) (sym e) ∙ ap (λ (v : ℕ). put_words k (v ∷ []) bs) (by_test w h false f) ∙ s
 
 -- ---- n floats from the k-th on
@@ -134,7 +142,8 @@ module _ {bs : List ℕ} {k n : ℕ} where
             ∙ ap has_no_nan (sym (ap (λ (j : ℕ). take j xs) (add-one i) ∙ take-suc xs i nan (omega arith)));
         written = λ t.
             let u = bools.and_true stand r t in
-            written_turn k 1 one (k + i) nan (s.written u.0) (omega arith) (sym (ap (λ (y : Float). put_words (k + i) (float_words y) bs) x ∙ f u.1)) (omega arith) (omega arith);
+            written_turn k 1 one (k + i) nan (s.written u.0) (omega arith) (sym (ap (λ (y : Float). put_words (k + i) (float_words y) bs) x ∙ f u.1))
+            (omega arith) (omega arith);
       }
 
   pub standing_end : {i : ℕ} {stand : Bool} → Standing bs k n i stand → n ≤ i
@@ -163,7 +172,10 @@ modal_fits ws h =
     let f : (j : ℕ) → F32 (float_in ws j) = λ j. of_bits-fits binary32 (get_or ws j 0) in (
       (f 24, f 25),
       record { many = length_tab 24 (λ i. float_in ws (26 + i)); all = each_tab F32 24 (λ i. float_in ws (26 + i)) (λ i. f (26 + i)) },
-      record { many = length_tab 6 (λ i. batch_in ws (50 + 8 * i)); all = each_tab BatchF32 6 (λ i. batch_in ws (50 + 8 * i)) (λ i. batch_fits ws (50 + 8 * i)) },
+      record {
+        many = length_tab 6 (λ i. batch_in ws (50 + 8 * i));
+        all = each_tab BatchF32 6 (λ i. batch_in ws (50 + 8 * i)) (λ i. batch_fits ws (50 + 8 * i));
+      },
     )
 
 -- its words are those of 74 floats in a row
@@ -186,7 +198,8 @@ put_below a m n b k ys zs xs lz h eb ek =
     let rest = zs ++ drop n (drop b xs) in
     let lb : length (take b xs) ≡ b = length-take-le b xs (omega arith) in
     ap (λ (p : List ℕ). p ++ (ys ++ drop m (drop a (take b xs ++ rest)))) (take-append-le a (take b xs) rest (omega arith) ∙ take-take a b xs (omega arith))
-    ∙ ap (λ (p : List ℕ). take a xs ++ (ys ++ p)) (drop-drop m a (take b xs ++ rest) ∙ ap (λ (j : ℕ). drop j (take b xs ++ rest)) (sym eb) ∙ drop_at (take b xs) rest b lb)
+    ∙ ap (λ (p : List ℕ). take a xs ++ (ys ++ p)) (drop-drop m a (take b xs ++ rest) ∙ ap (λ (j : ℕ). drop j (take b xs ++ rest)) (sym eb)
+    ∙ drop_at (take b xs) rest b lb)
     ∙ ap (λ (p : List ℕ). take a xs ++ p) (sym (append_assoc ys zs (drop n (drop b xs))))
     ∙ ap (λ (p : List ℕ). take a xs ++ ((ys ++ zs) ++ p)) (drop-drop n b xs ∙ ap (λ (j : ℕ). drop j xs) (end a m n b k eb ek) ∙ sym (drop-drop k a xs))
   where
@@ -194,7 +207,8 @@ put_below a m n b k ys zs xs lz h eb ek =
     end a m n b k eb ek = omega arith
 
 -- words before words
-wrote_below : (k j : ℕ) (ws vs bs : List ℕ) {cs ds : List ℕ} → cs ≡ put_words j vs bs → ds ≡ put_words k ws cs → j ≡ k + length ws → 4 * j + 4 * length vs ≤ length bs
+wrote_below : (k j : ℕ) (ws vs bs : List ℕ) {cs ds : List ℕ} → cs ≡ put_words j vs bs → ds ≡ put_words k ws cs → j ≡ k + length ws
+    → 4 * j + 4 * length vs ≤ length bs
     → ds ≡ put_words k (ws ++ vs) bs
 unfolding put_words
 wrote_below k j ws vs bs e f ej h =
@@ -203,7 +217,8 @@ wrote_below k j ws vs bs e f ej h =
     (let l = length-append ws vs in omega arith)
     ∙ ap (λ (l : List ℕ). put (4 * k) (4 * length (ws ++ vs)) l bs) (sym (bytes_append ws vs))
 
-pub string_wrote : (s : Slot) (n v : ℕ) (bs : List ℕ) {cs ds es : List ℕ} → cs ≡ put_words 24 (modal_words s.modal) bs → ds ≡ put_words 1 (voice_words s.string) cs
+pub string_wrote : (s : Slot) (n v : ℕ) (bs : List ℕ) {cs ds es : List ℕ} → cs ≡ put_words 24 (modal_words s.modal) bs
+    → ds ≡ put_words 1 (voice_words s.string) cs
     → es ≡ put_words 0 (n ∷ []) ds → length bs ≡ 393 → ModalF32 s.modal → n ≡ s.kind → v ≡ flag_of s.modal.held → set es 392 v ≡ encode_slot s
 unfolding slot_words
 string_wrote s n v bs e f g l o en ev =

@@ -3,7 +3,8 @@ ghost use Rattle.std.specs.Prelude.{◌≡◌, ◌<◌, length};
 ghost use Rattle.slots.specs.declared.slots.Slot.{Slot};
 ghost use Rattle.slots.specs.Slots.{slot_at};
 ghost use Rattle.slot_bytes.specs.Words.{put_words};
-ghost use Rattle.slot_bytes.specs.Layout.{decode_slot, decode_bank, StringF32, VoiceF32, ModalF32, SlotF32, string_words, voice_words, modal_words, encode_slot, with_bytes};
+ghost use Rattle.slot_bytes.specs.Layout.{decode_slot, decode_bank, StringF32, VoiceF32, ModalF32, SlotF32, string_words, voice_words, modal_words};
+ghost use Rattle.slot_bytes.specs.Layout.{encode_slot, with_bytes};
 
 use crate::record::{Record, write_all};
 use crate::words::{floats_stand, put_word, word_at};
@@ -107,7 +108,8 @@ fn put_part<T: Put>(part: &mut [u8], x: T)
 #[tactic(auto, using(crate::proofs::Parts::slot_cut, crate::proofs::Parts::put_cut))]
 pub fn put_nth<T: Put>(bytes: &mut [u8], slot: usize, x: T)
     requires { (slot < 8) × (length bytes.old ≡ 3144) }
-    ensures { (bytes.new ≡ with_bytes slot (encode_slot (T.after x (slot_at (decode_bank bytes.old) slot))) bytes.old) × SlotF32 (T.after x (slot_at (decode_bank bytes.old) slot)) }
+    ensures { (bytes.new ≡ with_bytes slot (encode_slot (T.after x (slot_at (decode_bank bytes.old) slot))) bytes.old)
+        × SlotF32 (T.after x (slot_at (decode_bank bytes.old) slot)) }
 {
     let from = 393 * slot;
     let to = from + 393;

@@ -2,7 +2,8 @@
 ghost use Rattle.std.specs.Prelude.{◌≡◌, refl, ℕ, List, ◌++◌, ◌+◌, ◌*◌, ◌≤◌, ◌<◌, length};
 ghost use Rattle.ground.specs.Frames.{tab};
 ghost use Rattle.slot_bytes.specs.Words.{words_in, put_words, each};
-ghost use Rattle.slot_bytes.specs.Layout.{F32, SvfF32, DcF32, ModeF32, BatchF32, All, float_in, svf_in, dc_in, mode_in, batch_in, float_again, float_words, svf_words, dc_words, mode_words, batch_words};
+ghost use Rattle.slot_bytes.specs.Layout.{F32, SvfF32, DcF32, ModeF32, BatchF32, All, float_in, svf_in, dc_in, mode_in, batch_in, float_again, float_words};
+ghost use Rattle.slot_bytes.specs.Layout.{svf_words, dc_words, mode_words, batch_words};
 
 use crate::words::{put_word, word_at};
 use modes::resonator::{Batch, ResonatorSvf};

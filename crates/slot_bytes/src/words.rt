@@ -38,7 +38,8 @@ fn float_stands(b: &[u8], k: usize) -> bool
 // k and n are no slice of the floats alone: the clause speaks of words by their number in the slot, which a part would count from elsewhere.
 pub fn floats_stand(b: &[u8], k: usize, n: usize) -> bool
     requires { 4 * (k + n) ≤ length b.now }
-    ensures { (result ≡ has_no_nan (floats_in (words_in b.now) k n)) × (result ≡ true → put_words k (each float_words (floats_in (words_in b.now) k n)) b.now ≡ b.now) }
+    ensures { (result ≡ has_no_nan (floats_in (words_in b.now) k n))
+        × (result ≡ true → put_words k (each float_words (floats_in (words_in b.now) k n)) b.now ≡ b.now) }
 {
     let mut stand = true;
     for i in 0..n {

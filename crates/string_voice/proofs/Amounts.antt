@@ -72,7 +72,8 @@ module _ (s : Float) (f : T (fits binary32 s)) (p : Between c0 s c1) where
       ≡ cond (lt s c0·24) (bridge (neg (bridge_amount s))) (cond (lt c0·26 s) (dispersion (dispersion_amount s)) (bridge (neg c0)))
   unfolding amount
   choice {A} bridge dispersion =
-      go (lt s c0·24) (lt c0·26 s) (λ t. passes (lt (bridge_amount s) c0) (sym bridge_test ∙ is_true (lt s c0·24) t)) (λ t. passes (lt c0 (dispersion_amount s)) (sym dispersion_test ∙ is_true (lt c0·26 s) t))
+      go (lt s c0·24) (lt c0·26 s) (λ t. passes (lt (bridge_amount s) c0) (sym bridge_test ∙ is_true (lt s c0·24) t))
+      (λ t. passes (lt c0 (dispersion_amount s)) (sym dispersion_test ∙ is_true (lt c0·26 s) t))
     where
       below : (z : Float) → T (lt z c0) → le z c0 ≡ true
       below z h = is_true (le z c0) (lt→le z c0 h)
@@ -81,21 +82,26 @@ module _ (s : Float) (f : T (fits binary32 s)) (p : Between c0 s c1) where
       above z h = not-true (le z c0) (is_true (not (le z c0)) (not_T (le z c0) (lt→not-le c0 z h)))
 
       go : (a b : Bool) → (T a → T (lt (bridge_amount s) c0)) → (T b → T (lt c0 (dispersion_amount s)))
-          → cond (le (cond a (bridge_amount s) (cond b (dispersion_amount s) c0)) c0) (bridge (neg (cond a (bridge_amount s) (cond b (dispersion_amount s) c0)))) (dispersion (cond a (bridge_amount s) (cond b (dispersion_amount s) c0)))
+          → cond (le (cond a (bridge_amount s) (cond b (dispersion_amount s) c0)) c0)
+          (bridge (neg (cond a (bridge_amount s) (cond b (dispersion_amount s) c0))))
+          (dispersion (cond a (bridge_amount s) (cond b (dispersion_amount s) c0)))
           ≡ cond a (bridge (neg (bridge_amount s))) (cond b (dispersion (dispersion_amount s)) (bridge (neg c0)))
       go true b f g = ap (λ (t : Bool). cond t (bridge (neg (bridge_amount s))) (dispersion (bridge_amount s))) (below (bridge_amount s) (f tt))
       go false true f g = ap (λ (t : Bool). cond t (bridge (neg (dispersion_amount s))) (dispersion (dispersion_amount s))) (above (dispersion_amount s) (g tt))
       go false false f g = unfold le of_bits in refl
 
   -- so the shape is chosen by structure, and a step draws a word where structure > 0.26 and only there
-  pub chosen : non_linearity (amount s) ≡ cond (lt s c0·24) (CurvedBridge (neg (bridge_amount s))) (cond (lt c0·26 s) (Dispersion (dispersion_amount s)) (CurvedBridge (neg c0)))
+  pub chosen : non_linearity (amount s) ≡ cond (lt s c0·24) (CurvedBridge (neg (bridge_amount s)))
+      (cond (lt c0·26 s) (Dispersion (dispersion_amount s)) (CurvedBridge (neg c0)))
   unfolding non_linearity
   chosen = choice CurvedBridge Dispersion
 
   pub step_words : words_of (non_linearity (amount s)) ≡ cond (lt c0·26 s) 1 0
-  step_words = ap words_of chosen ∙ go (lt s c0·24) (lt c0·26 s) (λ t u. lt→not-le c0·26 s u (lt→le s c0·26 (lt_then_le s c0·24 c0·26 t (unfold le of_bits in tt))))
+  step_words = ap words_of chosen ∙ go (lt s c0·24) (lt c0·26 s)
+      (λ t u. lt→not-le c0·26 s u (lt→le s c0·26 (lt_then_le s c0·24 c0·26 t (unfold le of_bits in tt))))
     where
-      go : (a b : Bool) → (T a → T b → ⊥) → words_of (cond a (CurvedBridge (neg (bridge_amount s))) (cond b (Dispersion (dispersion_amount s)) (CurvedBridge (neg c0)))) ≡ cond b 1 0
+      go : (a b : Bool) → (T a → T b → ⊥) → words_of (cond a (CurvedBridge (neg (bridge_amount s)))
+          (cond b (Dispersion (dispersion_amount s)) (CurvedBridge (neg c0)))) ≡ cond b 1 0
       go true true f = absurd (f tt tt)
       go true false f = refl
       go false true f = refl

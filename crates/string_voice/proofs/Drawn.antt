@@ -111,7 +111,8 @@ sound_draws k v n lines temp2 out g l2 lo =
     let s = process (shape_of k) k.f0 (raised k.accent k.brightness) (raised k.accent k.damping) (v.string, lines) temp2 out in
     let P : (String × List Float) × List Float → Type 0 = λ q. At (phase_after k v.string n) q.0 × (length q.1 ≡ length out) in
     draws_then m (λ q. P q.0 × (q.1 ≡ m)) (SecondHalf k v n) (counted s) _
-    (counted_draws m P s (strung_draws (shape_of k) k.f0 (raised k.accent k.brightness) (raised k.accent k.damping) n (v.string, lines) temp2 out (omega arith) g))
+    (counted_draws m P s (strung_draws (shape_of k) k.f0 (raised k.accent k.brightness) (raised k.accent k.damping) n (v.string, lines) temp2 out (omega arith)
+    g))
     (λ q r. record { left = refl; string = r.0.0; out = r.0.1 ∙ lo; dispersion = r.1 })
 
 -- the words of a render of n frames
@@ -144,7 +145,16 @@ render_draws k v n lines temp temp2 out aux g lt l2 lo la =
     (λ e h.
     let m = sound_of k e.voice lines e.temp2 out in
     subst
-    (λ (t : String). Draws (dispersion_words k t n) (Left k v n) (m >>= λ s. ret record { voice = s.voice; lines = s.lines; temp = e.temp; temp2 = e.temp2; out = s.out; aux = e.aux; counts = record e.counts { dispersion = s.counts.dispersion } }))
+    (λ (t : String). Draws (dispersion_words k t n) (Left k v n) (m >>= λ s. ret record {
+      voice = s.voice;
+      lines = s.lines;
+      temp = e.temp;
+      temp2 = e.temp2;
+      out = s.out;
+      aux = e.aux;
+      counts = record e.counts
+          { dispersion = s.counts.dispersion };
+    }))
     h.string
     (draws_then (dispersion_words k e.voice.string n) (SecondHalf k e.voice n) (Left k v n) m _
     (sound_draws k e.voice n lines e.temp2 out (subst⁻¹ (λ (t : String). Good (t, lines)) h.string g) h.temp2 lo)
@@ -167,7 +177,11 @@ begun_at_most : (k : Knobs) (v : StringVoice) → Fundamental k.f0 → v.remaini
 unfolding strike
 begun_at_most k v f h = go (k.trigger || k.sustain)
   where
-    go : (b : Bool) → (cond b (record { excitation_filter = svf_set_f_q v.excitation_filter (cutoff_for k) (cond k.sustain c1 c0·5) Dirty; string = v.string; remaining_noise_samples = whole_part (c1 ⊘ k.f0) }) v).remaining_noise_samples ≤ 1048576
+    go : (b : Bool) → (cond b (record {
+      excitation_filter = svf_set_f_q v.excitation_filter (cutoff_for k) (cond k.sustain c1 c0·5) Dirty;
+      string = v.string;
+      remaining_noise_samples = whole_part (c1 ⊘ k.f0);
+    }) v).remaining_noise_samples ≤ 1048576
     go true = left_in k.f0 f
     go false = h
 

@@ -25,7 +25,8 @@ unfolding burst
 burst_draws m n temp e l =
     let quiet = silence temp in
     draws_then m (λ q. Any q.0 × (length q.1 ≡ length quiet)) (λ t. length t ≡ n) (frames (fill_step drawn_noise) tt (take m temp) quiet) _
-    (frames_draws_each (fill_step drawn_noise) Any (λ s x y h. (0, refl, λ w. (refl, tt))) m tt (take m temp) quiet (simp (length-take, length-replicate) (omega arith)) tt)
+    (frames_draws_each (fill_step drawn_noise) Any (λ s x y h. (0, refl, λ w. (refl, tt))) m tt (take m temp) quiet
+    (simp (length-take, length-replicate) (omega arith)) tt)
     (λ q p. p.1 ∙ length-replicate (length temp) c0 ∙ e)
 
 pub excitation_draws : (sustain : Bool) (k : Knobs) (left n : ℕ) (temp : List Float) → length temp ≡ n
@@ -41,7 +42,8 @@ noise_beyond [] ys k l = refl
 noise_beyond (x ∷ xs) [] k l = refl
 noise_beyond (x ∷ xs) (y ∷ ys) zero l = absurd (not-suc-le-zero l)
 noise_beyond (x ∷ xs) (y ∷ ys) (suc k) l =
-    λ w. always_bind (λ q. get_or q.1 k nan ≡ get_or ys k nan) _ (frames (fill_step drawn_noise) tt xs ys) _ (noise_beyond xs ys k (le_of_suc-le-suc l)) (λ q p. p)
+    λ w. always_bind (λ q. get_or q.1 k nan ≡ get_or ys k nan) _ (frames (fill_step drawn_noise) tt xs ys) _ (noise_beyond xs ys k (le_of_suc-le-suc l))
+    (λ q p. p)
 
 burst_beyond : (m k : ℕ) (temp : List Float) → m ≤ k → Always (λ t. get_or t k nan ≡ get_or (silence temp) k nan) (burst m temp)
 unfolding burst
@@ -54,13 +56,15 @@ pub excitation_silent : (sustain : Bool) (k : Knobs) (left : ℕ) (temp : List F
     → run (excitation sustain k left temp) word ≡ record { value = t; word = w } → SilentFrom (excitation_words sustain left (length temp)) t
 unfolding excitation
 excitation_silent sustain k left temp word {t} e =
-    go sustain e (always_run (λ t. length t ≡ length temp) (excitation sustain k left temp) word (draws_always _ _ _ (excitation_draws sustain k left (length temp) temp refl)) e)
+    go sustain e (always_run (λ t. length t ≡ length temp) (excitation sustain k left temp) word
+    (draws_always _ _ _ (excitation_draws sustain k left (length temp) temp refl)) e)
   where
     go : (sustain : Bool) {w : ℕ} → run (excitation sustain k left temp) word ≡ record { value = t; word = w } → length t ≡ length temp
         → SilentFrom (excitation_words sustain left (length temp)) t
     go true e n = λ i l h. absurd (omega arith)
     go false e n =
-        λ i l h. always_run (λ t. get_or t i nan ≡ get_or (silence temp) i nan) (burst (min left (length temp)) temp) word (burst_beyond (min left (length temp)) i temp l) e
+        λ i l h. always_run (λ t. get_or t i nan ≡ get_or (silence temp) i nan) (burst (min left (length temp)) temp) word
+        (burst_beyond (min left (length temp)) i temp l) e
         ∙ get_or-replicate (length temp) i c0 nan (omega arith)
 
 -- the words of an excitation by its counts

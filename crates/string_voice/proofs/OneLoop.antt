@@ -95,7 +95,8 @@ module _ (shape : StringNonLinearity) (p : Params) (f : Svf) (s : String × List
 
 -- ---- the render
 module _ (k : Knobs) (v s : StringVoice) (lines temp temp2 out aux : List Float) (word : ℕ) where
-  pub together : {left w w' : ℕ} {counts : Counts} {temp' temp2' out' aux' lines' : List Float} {x b d : Float} {shape : StringNonLinearity} {q : Prepared} {z : Svf} {t : String} {drawn : ℕ}
+  pub together : {left w w' : ℕ} {counts : Counts} {temp' temp2' out' aux' lines' : List Float} {x b d : Float} {shape : StringNonLinearity} {q : Prepared}
+      {z : Svf} {t : String} {drawn : ℕ}
       → s ≡ strike k v
       → left ≡ cond k.sustain s.remaining_noise_samples (s.remaining_noise_samples - min s.remaining_noise_samples (length temp))
       → counts ≡ excitation_counts k.sustain (excitation_words k.sustain s.remaining_noise_samples (length temp))
@@ -122,5 +123,7 @@ module _ (k : Knobs) (v s : StringVoice) (lines temp temp2 out aux : List Float)
       let f = s.excitation_filter in
       let e : StringVoice = record { excitation_filter = z; string = s.string; remaining_noise_samples = left } in
       rendered k v lines temp temp2 out aux word
-      (excited k v s temp temp2 aux word es el et (filtered q.block.shape q.block.params f (q.string, lines) temp' temp2 out aux w ef) (mixed q.block.shape q.block.params f (q.string, lines) temp' temp2 out aux w ef) ec)
-      (sounded k e lines temp2' out w ex eh eb ed (processed shape k.f0 b d s.string lines temp2' out w eq (strung_run q.block.shape q.block.params f (q.string, lines) temp' temp2 out aux w ef)))
+      (excited k v s temp temp2 aux word es el et (filtered q.block.shape q.block.params f (q.string, lines) temp' temp2 out aux w ef)
+      (mixed q.block.shape q.block.params f (q.string, lines) temp' temp2 out aux w ef) ec)
+      (sounded k e lines temp2' out w ex eh eb ed (processed shape k.f0 b d s.string lines temp2' out w eq
+      (strung_run q.block.shape q.block.params f (q.string, lines) temp' temp2 out aux w ef)))

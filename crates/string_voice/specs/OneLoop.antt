@@ -34,7 +34,8 @@ frames_of shape p f s temp temp2 out aux =
     ret record { filter = e.0; string = q.0.0.0; lines = q.0.0.1; temp2 = e.1; out = q.0.1; aux = added e.1 aux; drawn = q.1 }
 
 -- render_of the voice, its lines and what stands in the buffers gives the answer, the lines and what stands in the buffers now; they are those that were lent
-pub record Renders (k : Knobs) (v : StringVoice) (lines : List Float) (b : Buffers) (word : ℕ) (r : Rendered StringVoice) (now : List Float) (c : Buffers) : Type 0 where
+pub record Renders (k : Knobs) (v : StringVoice) (lines : List Float) (b : Buffers) (word : ℕ) (r : Rendered StringVoice) (now : List Float)
+    (c : Buffers) : Type 0 where
   pub all : run (render_of k v lines b.temp.now b.temp_2.now b.out.now b.aux.now) word ≡ record {
     value = record {
       voice = r.voice;

@@ -4,7 +4,8 @@ ghost use Rattle.ground.specs.Draw.{run, Ran};
 ghost use Rattle.waveguide.specs.Kept.{Good};
 ghost use Rattle.noise.specs.Excitation.{Alike};
 ghost use Rattle.noise.specs.Buffers.{IsAlike, IsSame};
-ghost use Rattle.string_voice.specs.StringVoice.{voice_new, voice_init, voice_reset, cutoff_for, strike, burst, excitation, excitation_words, excitation_counts, Excited, excite_of, amount, Sounded, sound_of, After, render_of};
+ghost use Rattle.string_voice.specs.StringVoice.{voice_new, voice_init, voice_reset, cutoff_for, strike, burst, excitation, excitation_words};
+ghost use Rattle.string_voice.specs.StringVoice.{excitation_counts, Excited, excite_of, amount, Sounded, sound_of, After, render_of};
 ghost use Rattle.string_voice.specs.OneLoop.{Framed, frames_of, Renders};
 
 use noise::ahead::Passed;
@@ -32,7 +33,8 @@ pub struct Strung {
     pub drawn: usize,
 }
 
-// The cutoff of the excitation filter. The modal voice's has other numbers in three places, and its excitation a strike: one function of both would be told which at each.
+// The cutoff of the excitation filter. The modal voice's has other numbers in three places, and its excitation a strike: one function of both would be told
+// which at each.
 #[tactic(auto, unfolding(crate::specs::StringVoice::cutoff_for, crate::specs::StringVoice::exciter_semitones))]
 fn cutoff_for(k: Knobs) -> f32
     ensures { result ≡ cutoff_for k }

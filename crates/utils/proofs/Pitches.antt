@@ -1,8 +1,11 @@
--- A float from 1 on and below 2^15, times 256: nothing is rounded, and its whole part holds the float's whole part and 256 times what is left of the float. Assumes nothing.
+-- A float from 1 on and below 2^15, times 256: nothing is rounded, and its whole part holds the float's whole part and 256 times what is left of the float.
+-- Assumes nothing.
 use mathlib.Core.Path.{◌≡◌, refl, sym, ap, ◌∙◌, subst}
 use mathlib.Core.Bool.{true, false, true≢false, false≢true}
 use Prim.Native.Nat.{ℕ, zero, suc, ◌+◌, ◌-◌, ◌*◌, ◌/◌, ◌%◌, ◌^◌, ◌≤◌, ◌<◌}
-use native.Mathlib.Nat.{le_of_lt, le_of_eq, lt_of_lt_of_le, lt_of_le_of_lt, lt_of_not-le, not-le_of_lt, le_of_suc-le-suc, zero-lt-suc, mul-one, mul_assoc, mul_comm, mul_right_comm, add-mul, mul-pos, mul-lt-mul_of_pos_right, sub-add_cancel, mod-le, mod-lt, div-add-mod', div-lt_iff_lt-mul, mul-add-div_right, div-div-eq-div-mul, mul-div-mul_right}
+use native.Mathlib.Nat.{le_of_lt, le_of_eq, lt_of_lt_of_le, lt_of_le_of_lt, lt_of_not-le, not-le_of_lt, le_of_suc-le-suc, zero-lt-suc, mul-one, mul_assoc}
+use native.Mathlib.Nat.{mul_comm, mul_right_comm, add-mul, mul-pos, mul-lt-mul_of_pos_right, sub-add_cancel, mod-le, mod-lt, div-add-mod', div-lt_iff_lt-mul}
+use native.Mathlib.Nat.{mul-add-div_right, div-div-eq-div-mul, mul-div-mul_right}
 use native.Mathlib.Omega.{arith}
 use lib.Dec.{T, lit≤}
 use lib.IntN.{ℤ, pos, negsuc}
@@ -26,7 +29,15 @@ float_dyadic m (pos k) d h = whole_dyadic m k d
 float_dyadic m (negsuc k) d h =
     let b : 2 ^ suc k < 2 ^ 149 = lt_of_le_of_lt h (lt_of_lt_of_le (lt_of_le_of_lt (le_of_eq (mul-one m)) d) (lit≤ tt)) in
     let l : suc k ≤ 149 = le_of_suc-le-suc (lt_of_not-le (λ (g : 150 ≤ suc k). not-le_of_lt b (pow_mono (le_of_lt g)))) in
-    record { front = m; shift = 0; rest = 149 - suc k; few = d; is = refl; power = sym (pow-add 2 (149 - suc k) (suc k)) ∙ ap (λ (z : ℕ). 2 ^ z) (sub-add_cancel l) }
+    record {
+      front = m;
+      shift = 0;
+      rest = 149 - suc k;
+      few = d;
+      is = refl;
+      power = sym (pow-add 2 (149 - suc k) (suc k))
+          ∙ ap (λ (z : ℕ). 2 ^ z) (sub-add_cancel l);
+    }
 
 rest_few : (m : ℕ) (e : ℤ) → m < 2 ^ 24 → m * up e % down e < 2 ^ 24
 rest_few m (pos k) d = lt_of_lt_of_le (mod-lt (m * 2 ^ k) (zero-lt-suc 0)) (lit≤ tt)
@@ -117,7 +128,8 @@ of_values x a c C lo hi v w f =
     cut_is : (y : Float) → le c1 y ≡ true → lt y two_to23 ≡ true → to_unsigned 64 y ≡ whole_part y
     cut_is y h k = unfold whole_part in rw (h, short y k)
 
-fraction_value : (m : ℕ) (e : ℤ) → Dyadic (m * up e % down e) (down e) → m * up e < 2 ^ 15 * down e → HasValue (fraction_of (fin false m e)) false (m * up e % down e) (down e)
+fraction_value : (m : ℕ) (e : ℤ) → Dyadic (m * up e % down e) (down e) → m * up e < 2 ^ 15 * down e
+    → HasValue (fraction_of (fin false m e)) false (m * up e % down e) (down e)
 unfolding fraction_of of_int
 fraction_value m e d h =
     let a = m * up e in

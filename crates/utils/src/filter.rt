@@ -1,6 +1,7 @@
 // Zero-delay-feedback filters: the state variable filter at its low pass, and the DC blocker.
 ghost use Rattle.std.specs.Prelude.{◌≡◌};
-ghost use Rattle.utils.specs.Filter.{tan_of, dc_init, dc_process_sample, dc_process, svf_new, svf_init, svf_reset, svf_set_f_q, svf_process, svf_process_buffer};
+ghost use Rattle.utils.specs.Filter.{tan_of, dc_init, dc_process_sample, dc_process, svf_new, svf_init, svf_reset, svf_set_f_q, svf_process};
+ghost use Rattle.utils.specs.Filter.{svf_process_buffer};
 
 #[derive(Clone, Copy)]
 pub enum FrequencyApproximation {
@@ -66,7 +67,7 @@ impl DcBlocker {
 }
 
 // OnePole::tan
-#[tactic(auto, using(crate::proofs::Constants::pi_bits, crate::proofs::Constants::dirty_a_bits, crate::proofs::Constants::fast_a_bits, crate::proofs::Constants::fast_b_bits), unfolding(crate::specs::Filter::tan_dirty, crate::specs::Filter::tan_fast))]
+#[tactic(auto, using(crate::proofs::Constants::pi_bits, crate::proofs::Constants::dirty_a_bits, crate::proofs::Constants::fast_a_bits, crate::proofs::Constants::fast_b_bits,), unfolding(crate::specs::Filter::tan_dirty, crate::specs::Filter::tan_fast),)]
 pub fn tan(f: f32, approximation: FrequencyApproximation) -> f32
     ensures { result ≡ tan_of approximation f }
 {

@@ -2,7 +2,7 @@
 ghost use Rattle.std.specs.Prelude.{◌≡◌};
 ghost use Rattle.utils.specs.Units.{semitones_to_ratio};
 
-#[tactic(auto, using(crate::proofs::Pitches::pitch_indices), unfolding(crate::specs::Units::semitones_to_ratio, crate::specs::Units::high_index, crate::specs::Units::low_index))]
+#[tactic(auto, using(crate::proofs::Pitches::pitch_indices), unfolding(crate::specs::Units::semitones_to_ratio, crate::specs::Units::high_index, crate::specs::Units::low_index),)]
 pub fn semitones_to_ratio(semitones: f32) -> f32
     ensures { result ≡ semitones_to_ratio semitones }
 {

@@ -52,7 +52,8 @@ module _ (lines : List Float) (b : Bufs) (fit : sizes_fit (length lines) (length
   pub opened_sized : (rate : Float) → Sized (length b.out) (voice_init voice_new rate lines, b)
   unfolding voice_init string_init string_reset
   opened_sized rate =
-      let f : Alike (length b.temp) (length b.temp2) (length b.out) (length b.aux) = alike (length b.temp) (length b.temp2) (length b.out) (length b.aux) fitting.1 in
+      let f : Alike (length b.temp) (length b.temp2) (length b.out) (length b.aux) = alike (length b.temp) (length b.temp2) (length b.out) (length b.aux)
+      fitting.1 in
       record {
         small = f.small;
         good = record { size = length-replicate (length lines) c0 ∙ lines_size; string = omega arith; stretch = omega arith };

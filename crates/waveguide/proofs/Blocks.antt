@@ -20,7 +20,8 @@ tuned_good : (s : String) (f0 : Float) (d : Damping) (lines : List Float) (t : S
 unfolding tune
 tuned_good s f0 d lines t e g = rw e (record { size = g.size; string = g.string; stretch = g.stretch })
 
-pub prepared_good : (shape : StringNonLinearity) (f0 brightness damping : Float) (n : ℕ) (s : String) (lines : List Float) (b : Prepared) → b ≡ prepare s shape f0 brightness damping n
+pub prepared_good : (shape : StringNonLinearity) (f0 brightness damping : Float) (n : ℕ) (s : String) (lines : List Float) (b : Prepared)
+    → b ≡ prepare s shape f0 brightness damping n
     → Good (s, lines) → Good (b.string, lines)
 unfolding prepare
 prepared_good shape f0 brightness damping n s lines b e g =
@@ -28,7 +29,8 @@ prepared_good shape f0 brightness damping n s lines b e g =
 
 module _ (shape : StringNonLinearity) (f0 brightness damping : Float) (s : String) (lines xs ys : List Float) (word : ℕ) where
   pub processed : {b : Prepared} {r : Ran (((String × List Float) × List Float) × ℕ)} → b ≡ prepare s shape f0 brightness damping (length ys)
-      → run (counted (frames (frame b.block.shape b.block.params) (b.string, lines) xs ys)) word ≡ r → run (counted (process shape f0 brightness damping (s, lines) xs ys)) word ≡ r
+      → run (counted (frames (frame b.block.shape b.block.params) (b.string, lines) xs ys)) word ≡ r
+      → run (counted (process shape f0 brightness damping (s, lines) xs ys)) word ≡ r
   unfolding process
   processed eb e = ap (λ (b : Prepared). run (counted (frames (frame b.block.shape b.block.params) (b.string, lines) xs ys)) word) (sym eb) ∙ e
 

@@ -43,7 +43,8 @@ moved_stands : (shape : StringNonLinearity) (p : Params) (x : Float) (s : String
 unfolding advance
 moved_stands shape p x s =
     let q = s.0.src_phase ⊕ p.src_ratio in
-    either (lt c1 q) (q ⊖ c1) q (s.0.delay ⊕ p.increment) s.0.delay (step shape p x (record s.0 { src_phase = q ⊖ c1 }, s.1)) (ret (record s.0 { src_phase = q }, s.1))
+    either (lt c1 q) (q ⊖ c1) q (s.0.delay ⊕ p.increment) s.0.delay (step shape p x (record s.0 { src_phase = q ⊖ c1 }, s.1))
+    (ret (record s.0 { src_phase = q }, s.1))
     (step_keeps shape p x (record s.0 { src_phase = q ⊖ c1 }, s.1)) (refl, refl)
 
 frame_stands : (shape : StringNonLinearity) (p : Params) (g : Float × Float) (s : String × List Float) (x y : Float) → Stands g s

@@ -31,7 +31,8 @@ use Rattle.waveguide.specs.Kept.{Good, words_of, words_at}
 use Rattle.waveguide.specs.Underway.{guess_of, guess_after, begin, Ahead}
 
 module _ (shape : StringNonLinearity) (p : Params) (x : Float) (t : String) (word : ℕ) (lines : List Float) where
-  pub stepped : {delay noise : Float} {word' : ℕ} {h : Heard} {lines' : List Float} {held : Float} {dc : DcBlocker} {o : Svf × Float} {next : ℕ} {line' : List Float} {bridge : Float}
+  pub stepped : {delay noise : Float} {word' : ℕ} {h : Heard} {lines' : List Float} {held : Float} {dc : DcBlocker} {o : Svf × Float} {next : ℕ}
+      {line' : List Float} {bridge : Float}
       → run (bend shape p (t.delay ⊕ p.increment) t.dispersion_noise t.curved_bridge) word ≡ record { value = (delay, noise); word = word' }
       → ◌≡◌ {A = Heard × List Float} (h, lines') (hear shape p t delay lines)
       → held ≡ clamp_f x (neg c20) c20
@@ -238,13 +239,15 @@ module _ (shape : StringNonLinearity) (p : Params) (s₀ : String × List Float)
       let size : i ≡ min (length (take i xs)) (length ys₀) = omega (arith, length-take i xs, f.within) in
       let d = frames_draw shape p i s₀ (take i xs) ys₀ size good in
       let at : s.0.src_phase ≡ after (wrap p.src_ratio) i g =
-      (always_run (λ q. At (after (wrap p.src_ratio) i g) q.0 × (length q.1 ≡ length ys₀)) (frames (frame shape p) s₀ (take i xs) ys₀) w₀ (draws_always _ _ (frames (frame shape p) s₀ (take i xs) ys₀) d) f.so_far).0.phase in
+      (always_run (λ q. At (after (wrap p.src_ratio) i g) q.0 × (length q.1 ≡ length ys₀)) (frames (frame shape p) s₀ (take i xs) ys₀) w₀
+      (draws_always _ _ (frames (frame shape p) s₀ (take i xs) ys₀) d) f.so_far).0.phase in
       h
       ∙ ap (λ (k : ℕ). k + words_at shape p.src_ratio s.0.src_phase) e
       ∙ ap (λ (x : Float). words_to shape p g i + words_at shape p.src_ratio x) at
       ∙ sym (ap (words_to shape p g) (add-one i) ∙ drawn_more (wrap p.src_ratio) (words_at shape p.src_ratio) i g)
 
-  pub words_end : (i n : ℕ) {s : String × List Float} {ys : List Float} {w : ℕ} → Frames (frame shape p) s₀ xs ys₀ w₀ i s ys w → min (length xs) (length ys₀) ≤ i
+  pub words_end : (i n : ℕ) {s : String × List Float} {ys : List Float} {w : ℕ} → Frames (frame shape p) s₀ xs ys₀ w₀ i s ys w
+      → min (length xs) (length ys₀) ≤ i
       → n ≡ words_to shape p s₀.0.src_phase i
       → run (counted (frames (frame shape p) s₀ xs ys₀)) w₀ ≡ record { value = ((s, ys), n); word = w }
   words_end i n {s} {ys} {w} f l e =

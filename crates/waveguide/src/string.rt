@@ -2,7 +2,9 @@
 ghost use Rattle.std.specs.Prelude.{◌≡◌, ◌+◌, ◌≤◌, ◌<◌, ◌^◌, length};
 ghost use Rattle.ground.specs.Draw.{run, Ran, counted};
 ghost use Rattle.ground.specs.Frames.{frames};
-ghost use Rattle.waveguide.specs.String.{string_new, string_reset, string_init, non_linearity, amount_of, delay_of, snap, damping_of, compensation_of, noise_amount_of, params_of, tune, prepare, bend, read_plain, read_allpass, main_delay, stretches, hear, curve, step, advance, mix, frame, process};
+ghost use Rattle.waveguide.specs.String.{string_new, string_reset, string_init, non_linearity, amount_of, delay_of, snap, damping_of, compensation_of};
+ghost use Rattle.waveguide.specs.String.{noise_amount_of, params_of, tune, prepare, bend, read_plain, read_allpass, main_delay, stretches, hear, curve, step};
+ghost use Rattle.waveguide.specs.String.{advance, mix, frame, process};
 ghost use Rattle.waveguide.specs.Kept.{Good, words_of, words_at};
 ghost use Rattle.waveguide.specs.Underway.{noise_after, Ahead, guess_of, guess_after, guess_at, begin};
 
@@ -520,8 +522,10 @@ impl Block {
     #[tactic(auto, unfolding(crate::specs::String::advance))]
     pub fn advance(self, lines: &mut [f32], v: Underway, in_sample: f32) -> Underway
         requires { Good (v.string, lines.old) × Ahead self.params v × (v.drawn < 2 ^ 63) }
-        ensures { (run (advance self.shape self.params in_sample (v.string, lines.old)) v.word ≡ record { value = (result.string, lines.new); word = result.word })
-            × Ahead self.params result × (result.drawn ≡ v.drawn + words_at self.shape self.params.src_ratio v.string.src_phase) × (result.guess ≡ guess_at self.shape self.params v) }
+        ensures { (run (advance self.shape self.params in_sample (v.string, lines.old)) v.word
+            ≡ record { value = (result.string, lines.new); word = result.word })
+            × Ahead self.params result × (result.drawn ≡ v.drawn + words_at self.shape self.params.src_ratio v.string.src_phase)
+            × (result.guess ≡ guess_at self.shape self.params v) }
     {
         let phase = v.string.src_phase + self.params.src_ratio;
         if phase > 1.0 {

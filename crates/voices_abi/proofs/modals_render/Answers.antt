@@ -11,11 +11,16 @@ use Rattle.voices_abi.proofs.modals_render.Goals as goal
 
 pub loop-preserved : goal.loop-preserved
 loop-preserved c =
-    let a = c.args in
-    (turn _ _ _ (sized_again _ _) _ a.word _ _ _ _ _ c.loop.invariant.0 (omega arith) (run_then (render_of _ _ _ _ _ _) _ _ c.render-r.ensures.all), same_on c.render-r.ensures.same c.loop.invariant.1)
+    let a = c.args in (
+      turn _ _ _ (sized_again _ _) _ a.word _ _ _ _ _ c.loop.invariant.0 (omega arith) (run_then (render_of _ _ _ _ _ _) _ _ c.render-r.ensures.all),
+      same_on
+          c.render-r.ensures.same c.loop.invariant.1,
+    )
 
 pub returns : goal.returns
 returns c =
     let a = c.args in
     lent_is (search rules) (search rules) (search rules) (search rules) (λ v. record { value = v; word = c.loop.drawn })
-    (ended _ _ _ _ (record { temp = a.temp.now; temp2 = a.temp_2.now; out = a.out.now; aux = a.aux.now }) a.word _ _ _ (sym c.alike.ensures ∙ c.if-not-alike.false) (opened_is (record { temp = a.temp.now; temp2 = a.temp_2.now; out = a.out.now; aux = a.aux.now }) _ _ c.new.ensures c.init-voice.ensures) c.loop.invariant.0 (omega arith))
+    (ended _ _ _ _ (record { temp = a.temp.now; temp2 = a.temp_2.now; out = a.out.now; aux = a.aux.now }) a.word _ _ _
+    (sym c.alike.ensures ∙ c.if-not-alike.false) (opened_is (record { temp = a.temp.now; temp2 = a.temp_2.now; out = a.out.now; aux = a.aux.now }) _ _
+    c.new.ensures c.init-voice.ensures) c.loop.invariant.0 (omega arith))

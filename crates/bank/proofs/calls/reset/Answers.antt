@@ -23,4 +23,5 @@ with_slot-requires c =
 pub returns-in-Err : goal.returns-in-Err
 returns-in-Err c = λ w.
     let a = c.args in
-    refused_left (record { bank = a.bank; word = w; mem = a.lines.now }) (record { slot = a.slot; act = reset }) c.in-Err.reason (decided (record { slot = a.slot; act = reset }) c.check_reset.ensures c.bad-bad.ensures c.kind_at-held.ensures c.in-Err.is)
+    refused_left (record { bank = a.bank; word = w; mem = a.lines.now }) (record { slot = a.slot; act = reset }) c.in-Err.reason
+    (decided (record { slot = a.slot; act = reset }) c.check_reset.ensures c.bad-bad.ensures c.kind_at-held.ensures c.in-Err.is)

@@ -13,5 +13,6 @@ unfolding decode_bank
 returns c =
     let ps = parts 8 c.args.bytes.now in
     let s = c.slots_of.ensures.parts c.requires in
-    let e = any_from_yields_List (λ p. bad_slot (decode_slot p) || bad_flag p) _ _ c.any.result c.any.ensures.ran (YieldsList-from_slice ps cc) (λ x b q k. search (rules, tests)) in
+    let e = any_from_yields_List (λ p. bad_slot (decode_slot p) || bad_flag p) _ _ c.any.result c.any.ensures.ran (YieldsList-from_slice ps cc)
+    (λ x b q k. search (rules, tests)) in
     e ∙ some_bad ps

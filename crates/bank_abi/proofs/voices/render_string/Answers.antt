@@ -13,4 +13,5 @@ returns-clause-wrote c =
     let x = slot_at (decode_bank a.bytes.now) a.slot in
     let u : Bufs = held a.b.now in
     let p = c.put_nth.ensures in
-    rw c.with.ensures (wrote (record { bytes = a.bytes.now; word = a.word; mem = a.lines.now }) (record { slot = a.slot; act = render a.k u }) x _ _ refl (c.render_string-r.ensures.moved x c.requires.0 (sym c.string_nth-voice.ensures)) p.0 p.1)
+    rw c.with.ensures (wrote (record { bytes = a.bytes.now; word = a.word; mem = a.lines.now }) (record { slot = a.slot; act = render a.k u }) x _ _ refl
+    (c.render_string-r.ensures.moved x c.requires.0 (sym c.string_nth-voice.ensures)) p.0 p.1)

@@ -14,7 +14,8 @@ loop-sample-init c = frames_begin
 pub loop-sample-preserved : goal.loop-sample-preserved
 loop-sample-preserved c =
     let l = c.loop-sample in
-    frames_turn nan nan l.invariant (omega arith) (run_then (dust_sample c.args.f c.args.gain c.args.accent) _ l.w (run_then (dust c.args.f) _ l.w c.dust-u.ensures))
+    frames_turn nan nan l.invariant (omega arith) (run_then (dust_sample c.args.f c.args.gain c.args.accent) _ l.w
+    (run_then (dust c.args.f) _ l.w c.dust-u.ensures))
 
 pub returns : goal.returns
 unfolding dusted

@@ -11,4 +11,5 @@ loop-i-preserved g c =
 pub returns : goal.returns
 returns g c =
     let a = c.args in
-    settled_end g.F.Filter.step a.f a.xs.now a.ys.now a.m c.requires c.until_settled-s.ensures c.min-n.ensures c.loop-i.invariant (omega (arith, c.until_settled-s.ensures.within)) c.in_silence.ensures
+    settled_end g.F.Filter.step a.f a.xs.now a.ys.now a.m c.requires c.until_settled-s.ensures c.min-n.ensures c.loop-i.invariant
+    (omega (arith, c.until_settled-s.ensures.within)) c.in_silence.ensures

@@ -13,4 +13,5 @@ pub returns : goal.returns
 unfolding decode_slot slot_in
 returns c =
     let a = c.args in
-    c.voice_at.ensures ∙ ap (λ (ps : List (List ℕ)). voice_in (words_in (get_or ps a.slot []))) (c.slots_of.ensures.parts c.requires.1) ∙ ap (λ (x : Slot). x.string) (slot_of a.bytes.now a.slot [] c.requires.0)
+    c.voice_at.ensures ∙ ap (λ (ps : List (List ℕ)). voice_in (words_in (get_or ps a.slot []))) (c.slots_of.ensures.parts c.requires.1)
+    ∙ ap (λ (x : Slot). x.string) (slot_of a.bytes.now a.slot [] c.requires.0)

@@ -14,5 +14,9 @@ loop-i-preserved g c =
     let k = c.args.k in
     let ej = ap (λ (n : ℕ). k + n * i) c.WORDS.ensures in
     let r = room m.WORDS i g.row.N (omega arith) in
-    let h = c.requires in
-    (v.0, written_turn k m.WORDS g.met.T.Record.sized (k + c.WORDS.result * i) _ v.1 (omega arith) c.write.ensures.0 ej (omega arith), each_more m.is_f32 c.args.a i _ (omega arith) v.2 c.write.ensures.1)
+    let h = c.requires in (
+      v.0,
+      written_turn k m.WORDS g.met.T.Record.sized (k + c.WORDS.result * i) _ v.1 (omega arith) c.write.ensures.0 ej (omega arith),
+      each_more m.is_f32
+          c.args.a i _ (omega arith) v.2 c.write.ensures.1,
+    )

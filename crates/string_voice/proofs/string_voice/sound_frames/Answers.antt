@@ -48,7 +48,14 @@ advance-u-requires c =
     let l = c.loop-i in (
       frames_good Good (frame_good a.block.shape a.block.params) (begun_good a.block.params a.s a.word _ b.ensures a.lines.now c.requires.0) l.invariant.2,
       l.invariant.3,
-      omega (arith, l.invariant.4, words_to_few a.block.shape a.block.params b.result.string.src_phase l.i, l.invariant.2.within, l.invariant.5.few, l.invariant.5.out_size),
+      omega (
+        arith,
+        l.invariant.4,
+        words_to_few a.block.shape a.block.params b.result.string.src_phase l.i,
+        l.invariant.2.within,
+        l.invariant.5.few,
+        l.invariant.5.out_size,
+      ),
     )
 
 pub loop-i-preserved : goal.loop-i-preserved
@@ -65,11 +72,14 @@ loop-i-preserved c =
     let q = c.on-ahead.ensures in
     let m = c.advance-u.ensures in
     let good = begun_good a.block.params a.s a.word _ b.ensures a.lines.now c.requires.0 in (
-      lead_turn nan v.0 within (ahead_step filter_of l.ahead.filter a.b.now.temp.now (l.i + 1) q) (ahead_end filter_of l.ahead.filter a.b.now.temp.now (l.i + 1) q),
+      lead_turn nan v.0 within (ahead_step filter_of l.ahead.filter a.b.now.temp.now (l.i + 1) q)
+          (ahead_end filter_of l.ahead.filter a.b.now.temp.now (l.i + 1) q),
       scan_turn nan nan v.1 (omega (arith, z, lt)) (ap (λ (x : Float). (tt, get_or l.aux l.i nan ⊕ x)) x),
-      frames_turn nan nan v.2 (omega (arith, z, lt)) (rw (← x, c.mix.ensures) (run_then (advance a.block.shape a.block.params _ (l.u.string, l.lines)) _ l.u.word m.0)),
+      frames_turn nan nan v.2 (omega (arith, z, lt)) (rw (← x, c.mix.ensures)
+          (run_then (advance a.block.shape a.block.params _ (l.u.string, l.lines)) _ l.u.word m.0)),
       m.1,
-      words_turn a.block.shape a.block.params (b.result.string, a.lines.now) xs a.b.now.out.now b.result.word good l.i l.u.drawn _ v.2 (omega (arith, z, lt)) v.4 m.2,
+      words_turn a.block.shape a.block.params (b.result.string, a.lines.now) xs a.b.now.out.now b.result.word good l.i l.u.drawn _ v.2 (omega (arith, z, lt))
+          v.4 m.2,
       z,
     )
 
@@ -86,5 +96,7 @@ returns-clause-all c =
     all_frames a.block.shape a.block.params a.f (a.s, a.lines.now) a.b.now.temp.now a.b.now.temp_2.now a.b.now.out.now a.b.now.aux.now a.word
     (lead_end v.0 past)
     (ap (λ (q : Unit {0} × List Float). q.1) (scan_end v.1 (omega (arith, z, c.loop-i-test))))
-    (begun_run a.block.params a.s a.word b.result b.ensures (λ (t : String). counted (frames (frame a.block.shape a.block.params) (t, a.lines.now) xs a.b.now.out.now))
-    (words_end a.block.shape a.block.params (b.result.string, a.lines.now) xs a.b.now.out.now b.result.word good l.i l.u.drawn v.2 (omega (arith, z, c.loop-i-test)) v.4))
+    (begun_run a.block.params a.s a.word b.result b.ensures (λ (t : String). counted
+    (frames (frame a.block.shape a.block.params) (t, a.lines.now) xs a.b.now.out.now))
+    (words_end a.block.shape a.block.params (b.result.string, a.lines.now) xs a.b.now.out.now b.result.word good l.i l.u.drawn v.2
+    (omega (arith, z, c.loop-i-test)) v.4))

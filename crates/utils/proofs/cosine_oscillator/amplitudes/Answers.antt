@@ -14,7 +14,8 @@ pub loop-amplitude-init : goal.loop-amplitude-init
 loop-amplitude-init c = frames_begin
 
 pub loop-amplitude-preserved : goal.loop-amplitude-preserved
-loop-amplitude-preserved c = scan_turn nan nan c.loop-amplitude.invariant (omega arith) (ap (λ (o : CosineOscillator × Float). (o.0, o.1 ⊗ c0·25)) c.next-out.ensures)
+loop-amplitude-preserved c = scan_turn nan nan c.loop-amplitude.invariant (omega arith)
+    (ap (λ (o : CosineOscillator × Float). (o.0, o.1 ⊗ c0·25)) c.next-out.ensures)
 
 pub returns : goal.returns
 unfolding amplitudes_of

@@ -4,4 +4,5 @@ use Rattle.ground.proofs.Frames.{Scan}
 use Rattle.utils.proofs.cosine_oscillator.amplitudes.Given as goal
 
 abbrev pub invariant-loop-amplitude : goal.invariant-loop-amplitude
-invariant-loop-amplitude l = Scan amplitude_step l.initial.oscillator l.initial.amplitude-items l.initial.amplitude-items l.amplitude-index l.oscillator l.amplitude-items
+invariant-loop-amplitude l = Scan amplitude_step l.initial.oscillator l.initial.amplitude-items l.initial.amplitude-items l.amplitude-index l.oscillator
+    l.amplitude-items

@@ -10,5 +10,8 @@ unfolding decode_slot slot_in modal_in
 returns c =
     let a = c.args in
     let m = c.put_modal_again.ensures in
-    let v = c.put_voice.ensures in
-    (string_wrote (record (decode_slot a.b.now) { string = a.self }) _ c.from.result a.b.now m.0 v.0 c.put_word.ensures c.told-b m.1 c.word_at-kind.ensures.0 (c.from.ensures ∙ flag_is _), (v.1, m.1))
+    let v = c.put_voice.ensures in (
+      string_wrote (record (decode_slot a.b.now) { string = a.self }) _ c.from.result a.b.now m.0 v.0 c.put_word.ensures c.told-b m.1 c.word_at-kind.ensures.0
+          (c.from.ensures ∙ flag_is _),
+      (v.1, m.1),
+    )

@@ -7,6 +7,7 @@ use Rattle.slot_bytes.proofs.record.DcBlockerRecord.write.Goals as goal
 pub returns : goal.returns
 unfolding dc_words float_words
 returns c = (
-  wrote _ _ _ _ _ (wrote _ _ _ _ _ c.write.ensures.0 c.write-2.ensures.0 (omega arith) (omega (arith, c.requires))) c.write-3.ensures.0 (omega arith) (omega (arith, c.requires)),
+  wrote _ _ _ _ _ (wrote _ _ _ _ _ c.write.ensures.0 c.write-2.ensures.0 (omega arith) (omega (arith, c.requires))) c.write-3.ensures.0 (omega arith)
+      (omega (arith, c.requires)),
   (c.write.ensures.1, c.write-2.ensures.1, c.write-3.ensures.1),
 )

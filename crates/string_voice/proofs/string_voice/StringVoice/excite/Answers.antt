@@ -12,11 +12,13 @@ pub settle-excitation_filter-requires : goal.settle-excitation_filter-requires
 settle-excitation_filter-requires c =
     let a = c.args in
     let left = c.strike-struck.result.remaining_noise_samples in
-    subst (λ (n : ℕ). SilentFrom n c.fill_excitation-drawn.new.temp) (counted_words a.k.sustain (excitation_words a.k.sustain left (length a.temp.now)) c.counts_of-counts.ensures)
+    subst (λ (n : ℕ). SilentFrom n c.fill_excitation-drawn.new.temp)
+    (counted_words a.k.sustain (excitation_words a.k.sustain left (length a.temp.now)) c.counts_of-counts.ensures)
     (excitation_silent a.k.sustain a.k left a.temp.now a.word c.fill_excitation-drawn.ensures)
 
 pub returns : goal.returns
 returns c =
     let a = c.args in
     let s = c.strike-struck in
-    excited a.k a.self s.result a.temp.now a.temp_2.now a.aux.now a.word s.ensures c.noise_left-left.ensures c.fill_excitation-drawn.ensures c.settle-excitation_filter.ensures c.add_into.ensures c.counts_of-counts.ensures
+    excited a.k a.self s.result a.temp.now a.temp_2.now a.aux.now a.word s.ensures c.noise_left-left.ensures c.fill_excitation-drawn.ensures
+    c.settle-excitation_filter.ensures c.add_into.ensures c.counts_of-counts.ensures

@@ -36,9 +36,11 @@ loop-i-preserved c =
     let b = c.begin-u in
     let l = c.loop-i in
     let m = c.advance-u.ensures in (
-      frames_turn nan nan l.invariant.0 (omega (arith, c.loop-i-test, c.min-i-end.ensures)) (rw c.mix.ensures (run_then (advance a.self.shape p _ (l.u.string, l.lines)) _ l.u.word m.0)),
+      frames_turn nan nan l.invariant.0 (omega (arith, c.loop-i-test, c.min-i-end.ensures))
+          (rw c.mix.ensures (run_then (advance a.self.shape p _ (l.u.string, l.lines)) _ l.u.word m.0)),
       m.1,
-      words_turn a.self.shape p (b.result.string, a.lines.now) a.in_.now a.out.now b.result.word (begun_good p a.s a.word _ b.ensures a.lines.now c.requires.0) l.i l.u.drawn _ l.invariant.0 (omega (arith, l.invariant.0.within)) l.invariant.2 m.2,
+      words_turn a.self.shape p (b.result.string, a.lines.now) a.in_.now a.out.now b.result.word (begun_good p a.s a.word _ b.ensures a.lines.now c.requires.0)
+          l.i l.u.drawn _ l.invariant.0 (omega (arith, l.invariant.0.within)) l.invariant.2 m.2,
     )
 
 pub returns : goal.returns
@@ -48,4 +50,5 @@ returns c =
     let b = c.begin-u in
     let l = c.loop-i in
     begun_run p a.s a.word b.result b.ensures (λ (t : String). counted (frames (frame a.self.shape p) (t, a.lines.now) a.in_.now a.out.now))
-    (words_end a.self.shape p (b.result.string, a.lines.now) a.in_.now a.out.now b.result.word (begun_good p a.s a.word _ b.ensures a.lines.now c.requires.0) l.i l.u.drawn l.invariant.0 (omega arith) l.invariant.2)
+    (words_end a.self.shape p (b.result.string, a.lines.now) a.in_.now a.out.now b.result.word (begun_good p a.s a.word _ b.ensures a.lines.now c.requires.0)
+    l.i l.u.drawn l.invariant.0 (omega arith) l.invariant.2)

@@ -9,7 +9,8 @@ returns c =
     let a = c.args in
     let b = a.self in
     let e = c.bend-bent.ensures in (
-      stepped b.shape b.params a.in_sample a.v.string a.v.word a.lines.now e.0 c.hear-s.ensures c.clamp.ensures c.process_sample-dc_blocker.ensures c.process-sample.ensures c.write-next.ensures c.curve.ensures,
+      stepped b.shape b.params a.in_sample a.v.string a.v.word a.lines.now e.0 c.hear-s.ensures c.clamp.ensures c.process_sample-dc_blocker.ensures
+          c.process-sample.ensures c.write-next.ensures c.curve.ensures,
       e.1,
       ap (λ (k : ℕ). a.v.drawn + k) c.words.ensures,
       guess_on b.shape b.params a.v e.0 e.2,
