@@ -16,7 +16,8 @@ pub type Drawn = Rendered<()>;
 
 // A string's render: its voice alone is decoded.
 // The bytes are a slice, as C hands them, so their length is asked here, in `render_modal` and in `render`.
-// It and `render_modal` are no generic one: each decodes, lends and asks for something else.
+// It and `render_modal` are no generic one: each decodes, lends and asks for something else. Each is a function of its own, whose loop has all registers.
+#[inline(never)]
 fn render_string(
     bytes: &mut [u8],
     lines: &mut [f32],
@@ -45,6 +46,7 @@ fn render_string(
 }
 
 // A modal voice's render: its slot is decoded whole, the string's words being few beside its own.
+#[inline(never)]
 #[tactic(auto, using(crate::proofs::Crosses::wrote))]
 fn render_modal(
     around: bool,
@@ -72,9 +74,7 @@ fn render_modal(
     after.with(())
 }
 
-// A render, by the slot's kind; the caller tells `around` at each call.
-// `kind` is the number in the slot's bytes, which may hold any, so it is no `Kind`.
-// Each voice's is called twice, so that the compiler leaves it a function of its own, whose loop has all registers.
+// A render, by the slot's kind: the number in the slot's bytes, which may hold any, so it is no `Kind`.
 pub fn render(
     around: bool,
     kind: u32,
@@ -98,14 +98,8 @@ pub fn render(
     }) }
     ensures same { IsSame b.new b.old }
 {
-    if around {
-        if kind == Kind::String as u32 {
-            return render_string(bytes, lines, word, slot, k, b);
-        }
-        return render_modal(true, bytes, word, slot, k, b);
-    }
     if kind == Kind::String as u32 {
         return render_string(bytes, lines, word, slot, k, b);
     }
-    render_modal(false, bytes, word, slot, k, b)
+    render_modal(around, bytes, word, slot, k, b)
 }

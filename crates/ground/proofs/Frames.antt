@@ -233,9 +233,6 @@ module _ {S A : Type 0} (step : S → A → S) where
   scan_looking s [] = refl
   scan_looking s (x ∷ xs) = scan_looking (step s x) xs
 
-  pub over_keeps : (Good : S → Type 0) → ((s : S) (x : A) → Good s → Good (step s x)) → (s : S) (xs : List A) → Good s → Good (over step s xs)
-  over_keeps Good keeps s xs h = subst Good (scan_looking s xs) (scan_keeps looking Good (λ s x y. keeps s x) s xs xs h).0
-
 abbrev pub Over : {S A : Type 0} (step : S → A → S) (s₀ : S) (xs : List A) (i : ℕ) (s : S) → Type 0
 Over step s₀ xs i s = Scan (looking step) s₀ xs xs i s xs
 
