@@ -22,7 +22,7 @@ $(libraries)/lib%.a: $(sources)
 	@cp crates/$*/out/lib$*.a $@.new && mv $@.new $@
 
 render: $(libraries)/libbank_abi.a
-	@host/cargo build --quiet --release -p bleidhvan
+	@host/cargo build --quiet --release -p renderer
 	@host/target/release/bleidhvan render examples/sheet.csv -o rendered --jobs "$$(nproc)"
 
 test:
