@@ -79,6 +79,8 @@ fn frees(before: StringAt, after: StringAt, counts: Counts) -> bool {
 #[cfg(test)]
 mod tests {
     use super::{LONG, SHORT};
+    use crate::chance::Chance;
+    use crate::order::Orders;
     use crate::progress::Progress;
     use crate::render::Settings;
     use crate::run::run;
@@ -86,27 +88,9 @@ mod tests {
     use crate::wav::Format;
     use std::collections::BTreeMap;
     use std::fs;
-    use std::sync::Arc;
     use std::sync::atomic::{AtomicUsize, Ordering};
 
-    /// Numbers by chance, the same ones at every run.
-    struct Chance(u64);
-
     impl Chance {
-        fn below(&mut self, n: u64) -> u64 {
-            self.0 = self.0.wrapping_mul(6364136223846793005).wrapping_add(1442695040888963407);
-            (self.0 >> 33) % n
-        }
-
-        /// 0 to 1.
-        fn part(&mut self) -> f64 {
-            self.below(1 << 30) as f64 / (1 << 30) as f64
-        }
-
-        fn of<T: Copy>(&mut self, few: &[T]) -> T {
-            few[self.below(few.len() as u64) as usize]
-        }
-
         /// A knob: one of a few values, or any.
         fn knob(&mut self, few: &[f64]) -> f64 {
             if self.below(2) == 0 { self.of(few) } else { self.part() }
@@ -166,8 +150,9 @@ mod tests {
         fs::create_dir_all(&folder).expect("a folder is made");
         let text = format!("{}\n{rows}", COLUMNS.join(","));
         let sheet = Sheet::new(text.as_bytes()).expect("the sheet has its header");
-        let progress = Progress::new(true, None, Arc::default());
-        let sum = run(sheet, &folder, settings, 2, progress).expect("the folder is written");
+        let orders = Orders::new(sheet, settings);
+        let progress = Progress::new(true, 0);
+        let sum = run(orders, &folder, settings, 2, &progress).expect("the folder is written");
         assert_eq!(sum.rendered, rows.lines().count());
         let entries = fs::read_dir(&folder).expect("the folder is read");
         let files = entries.map(|entry| {

@@ -2,33 +2,40 @@
 
 mod blocks;
 mod catalogue;
+#[cfg(test)]
+mod chance;
+mod lines;
+mod name;
 mod note;
+mod order;
 mod page;
 mod pitch;
 mod progress;
+#[cfg(test)]
+mod random_sheets;
 mod render;
 mod run;
 mod sheet;
 mod wav;
 
 use blocks::LONG;
-use progress::{Counted, Progress};
+use order::Orders;
+use progress::Progress;
 use render::Settings;
 use run::Sum;
 use sheet::Sheet;
 use std::fs::{self, File};
-use std::io::{self, BufRead, BufReader, Write};
+use std::io::{self, Read, Write};
 use std::path::{Path, PathBuf};
 use std::process::ExitCode;
-use std::sync::Arc;
 use wav::Format;
 
 const HELP: &str = "Renders notes with string and modal voices whose every sample is proved.
 
 Usage: bleidhvan render SHEET -o DIR [options]
 
-SHEET is a CSV file with a header ('-' reads it from standard input), one note a row:
-  name        the name of the note and of its file
+SHEET is a CSV file with a header ('-' reads it from standard input), one note a line:
+  name        the name of the note and of its file, which no other note has
   kind        string or modal
   note        a name such as A3, a number such as 57, or a frequency such as 220hz
   seconds     how long the note is
@@ -46,6 +53,8 @@ Options:
   --bits N    32 for float samples, 16 for whole ones (32)
   --aux       the aux output as a second channel
   --jobs N    how many notes are rendered at once (1)
+  --first-line N
+              where SHEET is a part of a whole sheet, the whole one's line of its line 2 (2)
   --quiet     no progress and no sum
   --help      this text
   --version   the version
@@ -53,7 +62,10 @@ Options:
 Example:
   bleidhvan render notes.csv -o notes --jobs 4
 
-Exit status: 0 every note was rendered; 1 some were refused, which catalogue.csv names;
+One line is one note: a cell holds no line break, and a line whose quote does not end is refused by itself.
+Refused notes are listed with their lines, the first 20 here and all in catalogue.csv.
+
+Exit status: 0 every note was rendered; 1 some were refused, or the sheet orders none;
 2 the command or the sheet was wrong, or the folder could not be written.";
 
 /// What the command line asks for.
@@ -62,6 +74,8 @@ struct Asked {
     folder: PathBuf,
     settings: Settings,
     jobs: usize,
+    /// The line of the whole sheet that line 2 of this part of it is.
+    first_line: usize,
     is_quiet: bool,
 }
 
@@ -109,8 +123,14 @@ fn read(words: Vec<String>) -> Result<Asked, String> {
     let format = Format::Float32;
     let settings = Settings { seed: 0, rate: 48000, format, aux: false, longest: LONG };
     let (mut sheet, mut folder) = (None, None);
-    let mut asked =
-        Asked { sheet: String::new(), folder: PathBuf::new(), settings, jobs: 1, is_quiet: false };
+    let mut asked = Asked {
+        sheet: String::new(),
+        folder: PathBuf::new(),
+        settings,
+        jobs: 1,
+        first_line: 2,
+        is_quiet: false,
+    };
     while let Some(word) = words.next() {
         let mut value = |form: &str| words.next().ok_or(format!("{word} needs a value: {form}"));
         match &word[..] {
@@ -118,6 +138,10 @@ fn read(words: Vec<String>) -> Result<Asked, String> {
             "--seed" => asked.settings.seed = number(&word, &value("--seed 33")?, 0, u32::MAX)?,
             "--rate" => asked.settings.rate = number(&word, &value("--rate 48000")?, 8000, 192000)?,
             "--jobs" => asked.jobs = number(&word, &value("--jobs 4")?, 1, 256)? as usize,
+            "--first-line" => {
+                asked.first_line =
+                    number(&word, &value("--first-line 1002")?, 2, u32::MAX)? as usize;
+            }
             "--bits" => asked.settings.format = format_of(&value("--bits 16")?)?,
             "--aux" => asked.settings.aux = true,
             "--quiet" => asked.is_quiet = true,
@@ -148,42 +172,73 @@ fn format_of(text: &str) -> Result<Format, String> {
 
 /// Renders the sheet, and says whether every note was rendered.
 fn render_sheet(asked: &Asked) -> Result<bool, String> {
-    let (input, bytes) = opened(&asked.sheet)?;
-    let read = Arc::default();
-    let input = Counted { input, read: Arc::clone(&read) };
-    let sheet = Sheet::new(input).map_err(|error| format!("{}: {error}", asked.sheet))?;
+    let text = read_sheet(&asked.sheet)?;
+    let sheet = Sheet::new(&text).map_err(|error| format!("{}: {error}", asked.sheet))?;
+    let ordered = lines::counted(&text);
+    if ordered == 0 {
+        drop(writeln!(
+            io::stderr(),
+            "bleidhvan: {} orders no note: it has a header, and no line behind it",
+            asked.sheet
+        ));
+        return Ok(false);
+    }
     let folder = &asked.folder;
     let unwritable = |error| format!("{} cannot be written: {error}", folder.display());
     fs::create_dir_all(folder).map_err(unwritable)?;
-    let progress = Progress::new(asked.is_quiet, bytes, read);
-    let sum = run::run(sheet, folder, &asked.settings, asked.jobs, progress).map_err(unwritable)?;
-    report(asked, folder, sum)
+    let progress = Progress::new(asked.is_quiet, ordered);
+    let orders = Orders::new(sheet.part_from(asked.first_line), &asked.settings);
+    let sum =
+        run::run(orders, folder, &asked.settings, asked.jobs, &progress).map_err(unwritable)?;
+    report(asked, folder, ordered, &sum)
 }
 
-/// The sheet's text, and how long it is where that is known.
-fn opened(sheet: &str) -> Result<(Box<dyn BufRead>, Option<u64>), String> {
-    if sheet == "-" {
-        return Ok((Box::new(io::stdin().lock()), None));
-    }
+/// The most bytes of a sheet.
+const MOST_BYTES: u64 = 1 << 30;
+
+/// The sheet's text.
+fn read_sheet(sheet: &str) -> Result<Vec<u8>, String> {
     let unreadable = |error| format!("{sheet} cannot be read: {error}");
-    let file = File::open(sheet).map_err(unreadable)?;
-    let data = file.metadata().map_err(unreadable)?;
-    if data.is_dir() {
-        return Err(format!("{sheet} is a folder: name a CSV file"));
+    let input: Box<dyn Read> = if sheet == "-" {
+        Box::new(io::stdin().lock())
+    } else {
+        let file = File::open(sheet).map_err(unreadable)?;
+        if file.metadata().map_err(unreadable)?.is_dir() {
+            return Err(format!("{sheet} is a folder: name a CSV file"));
+        }
+        Box::new(file)
+    };
+    let mut text = Vec::new();
+    input.take(MOST_BYTES + 1).read_to_end(&mut text).map_err(unreadable)?;
+    if text.len() as u64 > MOST_BYTES {
+        return Err(format!("{sheet} is longer than {MOST_BYTES} bytes: split it"));
     }
-    Ok((Box::new(BufReader::new(file)), data.is_file().then_some(data.len())))
+    Ok(text)
 }
 
-fn report(asked: &Asked, folder: &Path, sum: Sum) -> Result<bool, String> {
-    let Sum { ordered, rendered, refused } = sum;
-    if ordered != rendered + refused {
+/// Says what became of the notes, which must be as many as the lines that order them.
+fn report(asked: &Asked, folder: &Path, lines: usize, sum: &Sum) -> Result<bool, String> {
+    let Sum { ordered, rendered, refused, told } = sum;
+    if [*ordered, rendered + refused] != [lines; 2] {
         return Err(format!(
-            "{ordered} notes were ordered, and {rendered} + {refused} accounted for"
+            "{lines} lines order notes, of which {ordered} were read, and {rendered} + {refused} accounted for: this is a fault of bleidhvan"
         ));
     }
     if !asked.is_quiet {
+        tell(told, refused - told.len());
         say(&format!("{ordered} notes ordered = {rendered} rendered + {refused} refused"));
         say(&format!("{} has the notes, catalogue.csv and index.html", folder.display()));
     }
-    Ok(refused == 0)
+    Ok(*refused == 0)
+}
+
+/// Lists refused notes on standard error, with nothing in them that moves a terminal.
+fn tell(told: &[String], more: usize) {
+    for line in told {
+        let line = line.replace(char::is_control, "\u{fffd}");
+        drop(writeln!(io::stderr(), "refused: {line}"));
+    }
+    if more > 0 {
+        drop(writeln!(io::stderr(), "refused: {more} more, which catalogue.csv names"));
+    }
 }

@@ -1,8 +1,8 @@
 //! An ordered note: what a row of the sheet asks for, or why it cannot be rendered.
 
-use crate::pitch::hertz;
+use crate::pitch::{self, FORMS, hertz};
 use crate::sheet::Row;
-use bleidhvan::{Kind, Knob, Knobs, Refusal};
+use bleidhvan::{Bank, Kind, Knob, Knobs, Refusal};
 
 /// The most seconds of a note.
 pub const MOST_SECONDS: f64 = 3600.0;
@@ -27,9 +27,10 @@ pub struct Fault {
 
 impl Fault {
     /// A cell that cannot be used.
-    fn cell(column: &'static str, value: &str, range: &str) -> Self {
+    pub fn cell(column: &'static str, value: &str, range: &str) -> Self {
+        let value = clipped(value.trim());
         let reason = format!("{column} is '{value}', and must be {range}");
-        Fault { column, value: value.into(), range: range.into(), reason, ..Fault::default() }
+        Fault { column, value, range: range.into(), reason, ..Fault::default() }
     }
 
     /// What stands against a whole row.
@@ -37,49 +38,38 @@ impl Fault {
         Fault { reason, ..Fault::default() }
     }
 
-    /// A refusal of the bank.
-    pub fn refusal(refusal: Refusal, note: &str) -> Self {
+    /// A refusal of the bank, in the words of the row.
+    pub fn refusal(refusal: Refusal, row: &Row, rate: u32) -> Self {
         let number = Some(refusal.number());
-        let Refusal::OutOfRange { knob, value } = refusal else {
+        let Refusal::OutOfRange { knob, .. } = refusal else {
             return Fault { number, reason: refusal.to_string(), ..Fault::default() };
         };
-        let (value, range) = (value.to_string(), knob.range_text().into());
-        let reason = match knob {
-            Knob::F0 => format!("the note {note}: {refusal}"),
-            _ => refusal.to_string(),
+        let fault = match knob {
+            Knob::F0 => Fault::cell("note", &row.cells[2], &pitch::range(rate)),
+            _ => Fault::cell(knob.name(), &row.cells[4 + knob as usize], knob.range_text()),
         };
-        Fault { number, column: knob.name(), value, range, reason }
+        Fault { number, ..fault }
     }
 }
 
-/// Whether a name can be that of a file on every system.
-fn usable(name: &str) -> bool {
-    let forbidden = |c: char| c.is_control() || "/\\:*?\"<>|".contains(c);
-    !name.is_empty() && name.len() <= 100 && !name.starts_with('.') && !name.contains(forbidden)
-}
-
-/// The name of a row, or what to write instead.
-pub fn name_of(row: &Row) -> Result<&str, Fault> {
-    let name = row.cells[0].trim();
-    let range = "up to 100 bytes, no dot in front and none of / \\ : * ? \" < > |";
-    if usable(name) { Ok(name) } else { Err(Fault::cell("name", name, range)) }
+/// The beginning of a text, so that no reason is long.
+pub fn clipped(text: &str) -> String {
+    const MOST: usize = 80;
+    match text.char_indices().nth(MOST) {
+        Some((end, _)) => format!("{}…", &text[..end]),
+        None => text.into(),
+    }
 }
 
 /// The note of a row at a sample rate, or why there is none.
 pub fn note_of(row: &Row, rate: u32) -> Result<Note, Fault> {
-    if let Some(fault) = &row.fault {
-        return Err(Fault::row(fault.clone()));
-    }
     let [_, kind, note, seconds, play, accent, structure, brightness, damping] = &row.cells;
     let kind = match &kind.trim().to_lowercase()[..] {
         "string" => Kind::String,
         "modal" => Kind::Modal,
         _ => return Err(Fault::cell("kind", kind, "string or modal")),
     };
-    let hertz = hertz(note).map_err(|reason| {
-        let value = note.trim().to_string();
-        Fault { column: "note", value, reason, ..Fault::default() }
-    })?;
+    let hertz = hertz(note).ok_or_else(|| Fault::cell("note", note, FORMS))?;
     let (trigger, sustain) = match &play.trim().to_lowercase()[..] {
         "trigger" => (true, false),
         "sustain" => (false, true),
@@ -88,7 +78,7 @@ pub fn note_of(row: &Row, rate: u32) -> Result<Note, Fault> {
     let knobs = Knobs {
         sustain,
         trigger,
-        f0: (hertz / f64::from(rate)) as f32,
+        f0: pitch::f0(hertz, rate),
         accent: number("accent", accent)?,
         structure: number("structure", structure)?,
         brightness: number("brightness", brightness)?,
@@ -99,10 +89,18 @@ pub fn note_of(row: &Row, rate: u32) -> Result<Note, Fault> {
 
 fn seconds_of(cell: &str) -> Result<f64, Fault> {
     let seconds = cell.trim().parse().ok().filter(|s| (0.0..=MOST_SECONDS).contains(s));
-    seconds.ok_or_else(|| Fault::cell("seconds", cell.trim(), "a number from 0 to 3600"))
+    seconds.ok_or_else(|| Fault::cell("seconds", cell, "a number from 0 to 3600"))
 }
 
 /// A number of any size: the bank says which are accepted.
 fn number(column: &'static str, cell: &str) -> Result<f32, Fault> {
-    cell.trim().parse().map_err(|_| Fault::cell(column, cell.trim(), "a number such as 0.5"))
+    cell.trim().parse().map_err(|_| Fault::cell(column, cell, "a number such as 0.5"))
+}
+
+/// Whether a bank accepts a note: its opening, and a render of no frames.
+pub fn ask(bank: &mut Bank, note: &Note, rate: u32) -> Result<(), Refusal> {
+    bank.open(0, note.kind, rate as f32)?;
+    let mut none: [[f32; 0]; 4] = Default::default();
+    let none = none.each_mut().map(|buffer| &mut buffer[..]);
+    bank.render(0, &note.knobs, none).map(|_| ())
 }

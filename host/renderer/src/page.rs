@@ -2,7 +2,7 @@
 
 use crate::catalogue::{Entry, file_of};
 use crate::render::{COLUMNS, Rendered};
-use crate::sheet::{COLUMNS as NAMES, Row};
+use crate::sheet::COLUMNS as NAMES;
 use crate::wav::Part;
 use std::io::{self, Write};
 
@@ -48,14 +48,14 @@ pub fn end(page: &mut Part, rendered: usize, refused: usize) -> io::Result<()> {
 }
 
 /// The lines of a note.
-pub fn row(row: &Row, entry: &Entry) -> String {
-    let name = escaped(&entry.name);
+pub fn row(entry: &Entry) -> String {
+    let (row, name) = (&entry.row, escaped(entry.name()));
     let [_, kind, note, seconds, play, ..] = row.cells.each_ref().map(|text| escaped(text.trim()));
     let knobs: Vec<String> = NAMES.iter().zip(&row.cells).skip(5).map(knob).collect();
     let knobs = format!("{kind}, {note}, {seconds} s, {play}<br>{}", knobs.join(", "));
     match &entry.outcome {
         Ok(rendered) => {
-            let file = escaped(&url(&file_of(&entry.name)));
+            let file = escaped(&url(&file_of(entry.name())));
             format!(
                 "<tr><th>{name}<td><audio controls preload=\"none\" src=\"{file}\"></audio><td>{}<td class=\"knobs\">{knobs}\n",
                 waveform(rendered, &name)
@@ -63,9 +63,9 @@ pub fn row(row: &Row, entry: &Entry) -> String {
         }
         Err(fault) => {
             let number = fault.number.map_or(String::new(), |number| format!(" (number {number})"));
-            let reason = escaped(&fault.reason);
+            let (reason, line) = (escaped(&fault.reason), row.line);
             format!(
-                "<tr class=\"refused\"><th>{name}<td colspan=\"2\">Refused{number}: {reason}.<td class=\"knobs\">{knobs}\n"
+                "<tr class=\"refused\"><th>{name}<td colspan=\"2\">Line {line} refused{number}: {reason}.<td class=\"knobs\">{knobs}\n"
             )
         }
     }

@@ -1,5 +1,7 @@
 //! A note as a frequency: a name, a number or hertz.
 
+use bleidhvan::Knob;
+
 /// 2^(k/12) for the semitones of an octave, so that a pitch has the same bits on every machine.
 const RATIOS: [f64; 12] = [
     1.0,
@@ -17,23 +19,39 @@ const RATIOS: [f64; 12] = [
 ];
 
 /// What to write in the column.
-const FORMS: &str = "a name such as A3 or C#4, a number such as 57, or a frequency such as 220hz";
+pub const FORMS: &str = "a name such as A3 or C#4, a number such as 57, or a frequency such as 220hz; numbers and names go from 0 (C-1) to 127 (G9)";
 
-/// The frequency of a note in hertz, or what to write instead.
-pub fn hertz(note: &str) -> Result<f64, String> {
+/// The frequency of a note in hertz.
+pub fn hertz(note: &str) -> Option<f64> {
     let note = note.trim();
     if let Some(hz) = note.to_ascii_lowercase().strip_suffix("hz") {
-        return match hz.trim().parse::<f64>() {
-            Ok(hz) => Ok(hz),
-            Err(_) => Err(format!("note is '{note}', and must be {FORMS}")),
-        };
+        return hz.trim().parse().ok();
     }
     let number = note.parse().ok().or_else(|| named(note));
-    number.filter(|n| (0..=127).contains(n)).map(of_number).ok_or_else(|| {
-        format!(
-            "note is '{note}', and must be {FORMS}; numbers and names go from 0 (C-1) to 127 (G9)"
-        )
-    })
+    number.filter(|n| (0..=127).contains(n)).map(of_number)
+}
+
+/// A frequency as the bank takes it.
+pub fn f0(hertz: f64, rate: u32) -> f32 {
+    (hertz / f64::from(rate)) as f32
+}
+
+/// The notes that the bank accepts at a sample rate, in hertz and as names.
+pub fn range(rate: u32) -> String {
+    let accepted = Knob::F0.range();
+    let [low, high] = [accepted.start(), accepted.end()].map(|f0| f64::from(*f0) * f64::from(rate));
+    // Rounded up, so that the low end is itself accepted.
+    let low = (low * 1e4).ceil() / 1e4;
+    let is_accepted = |number: &i32| accepted.contains(&f0(of_number(*number), rate));
+    let [first, last] = [(0..128).find(is_accepted), (0..128).rfind(is_accepted)];
+    let [first, last] = [first, last].map(|number| name(number.unwrap_or_default()));
+    format!("{low}hz to {high}hz, or {first} to {last}")
+}
+
+/// The name of a note's number.
+fn name(number: i32) -> String {
+    let names = ["C", "C#", "D", "D#", "E", "F", "F#", "G", "G#", "A", "A#", "B"];
+    format!("{}{}", names[number.rem_euclid(12) as usize], number.div_euclid(12) - 1)
 }
 
 /// The number of a note's name; C4 is 60.
@@ -60,24 +78,33 @@ fn of_number(number: i32) -> f64 {
 
 #[cfg(test)]
 mod tests {
-    use super::hertz;
+    use super::{hertz, name, range};
 
     #[test]
     fn names_numbers_and_hertz_agree() {
         for note in ["A3", "57", "220hz", "220.0 Hz", "a3", "G##3", "Bbb3"] {
-            assert_eq!(hertz(note), Ok(220.0), "{note}");
+            assert_eq!(hertz(note), Some(220.0), "{note}");
         }
         assert_eq!(hertz("C4"), hertz("60"));
         assert_eq!(hertz("C-1"), hertz("0"));
         assert_eq!(hertz("Cb4"), hertz("59"));
         assert!((hertz("C4").unwrap() - 261.6255653005986).abs() < 1e-10);
+        for number in 0..128 {
+            assert_eq!(hertz(&name(number)), hertz(&number.to_string()));
+        }
     }
 
     #[test]
-    fn anything_else_says_what_to_write() {
+    fn anything_else_is_no_note() {
         for note in ["", "H3", "A", "A99", "128", "-1", "57.5", "hz", "A3x", "♯3", "b"] {
-            let message = hertz(note).unwrap_err();
-            assert!(message.contains("a name such as A3"), "{note}: {message}");
+            assert_eq!(hertz(note), None, "{note}");
         }
+    }
+
+    #[test]
+    fn the_range_is_said_in_hertz_and_names() {
+        assert_eq!(range(48000), "0.0458hz to 24000hz, or C-1 to G9");
+        assert_eq!(range(8000), "0.0077hz to 4000hz, or C-1 to B7");
+        assert_eq!(range(44101), "0.0421hz to 22050.5hz, or C-1 to G9");
     }
 }

@@ -2,6 +2,7 @@
 
 use crate::blocks::{Block, Blocks, SHORT};
 use crate::note::{Fault, Note};
+use crate::sheet::Row;
 use crate::wav::{Format, Wav};
 use bleidhvan::{Bank, Counts};
 use std::io;
@@ -20,6 +21,18 @@ pub struct Settings {
     pub aux: bool,
     /// The frames of the longest block. No byte of a file hangs on it, to which the tests hold it.
     pub longest: usize,
+}
+
+impl Settings {
+    /// The channels of a file.
+    pub fn channels(&self) -> u32 {
+        if self.aux { 2 } else { 1 }
+    }
+
+    /// The frames of a note.
+    pub fn frames(&self, note: &Note) -> u64 {
+        (note.seconds * f64::from(self.rate)).round() as u64
+    }
 }
 
 /// What was rendered.
@@ -48,39 +61,32 @@ fn seed_of(seed: u32, name: &str) -> u32 {
     seed.to_le_bytes().into_iter().chain(name.bytes()).fold(2166136261, step)
 }
 
-/// Renders a note to the file at the path.
+/// Renders the note of a row to the file at the path.
 pub fn render(
-    name: &str,
+    row: &Row,
     note: &Note,
-    label: &str,
     settings: &Settings,
     path: &Path,
 ) -> Result<Rendered, Failure> {
-    let refused = |refusal| Failure::Refused(Fault::refusal(refusal, label));
-    let mut bank = Bank::new(seed_of(settings.seed, name));
+    let refused = |refusal| Failure::Refused(Fault::refusal(refusal, row, settings.rate));
+    let mut bank = Bank::new(seed_of(settings.seed, row.cells[0].trim()));
     bank.open(0, note.kind, settings.rate as f32).map_err(refused)?;
-    let frames = (note.seconds * f64::from(settings.rate)).round() as u64;
-    let channels = if settings.aux { 2 } else { 1 };
-    if frames > Wav::most_frames(settings.format, channels) {
-        let reason = "the note is longer than a WAV file can be".to_string();
-        return Err(Failure::Refused(Fault::row(reason)));
-    }
+    let frames = settings.frames(note);
     let mut blocks = Blocks::new(bank, note, settings.longest);
     let mut rendered = Rendered::new(frames);
     let mut wav = None;
     // A note of no frames is one block of none, so that its knobs are read as any other's.
     while wav.is_none() || rendered.done < frames {
         let Block { out, aux, counts } = blocks.next(frames - rendered.done).map_err(refused)?;
-        let heard = &[out, aux][..channels as usize];
+        let heard = &[out, aux][..settings.channels() as usize];
         if settings.longest > SHORT && heard.iter().any(|channel| has_nan(channel)) {
             // A NaN has many bits, and which of them are heard hangs on where the blocks end.
             drop(wav);
-            let short = Settings { longest: SHORT, ..*settings };
-            return render(name, note, label, &short, path);
+            return render(row, note, &Settings { longest: SHORT, ..*settings }, path);
         }
         let file = match &mut wav {
             Some(file) => file,
-            None => wav.insert(Wav::create(path, settings.format, channels, settings.rate)?),
+            None => wav.insert(Wav::create(path, settings)?),
         };
         file.write(heard)?;
         rendered.add(out, counts);

@@ -1,44 +1,51 @@
-//! A sheet of ordered notes: CSV in UTF-8 with a header, read row by row.
+//! A sheet of ordered notes: CSV in UTF-8 with a header, one line a note.
 
-use std::io::BufRead;
+use crate::lines::Lines;
 
 /// The columns that a sheet has, in any order.
 pub const COLUMNS: [&str; 9] =
     ["name", "kind", "note", "seconds", "play", "accent", "structure", "brightness", "damping"];
 
-/// The cells of an ordered note, in the order of the columns; where the row has other cells than the header, what is wrong.
+/// The longest line that is read.
+const LONGEST: usize = 1 << 20;
+
+/// The cells of an ordered note, in the order of the columns, and its line; where the line cannot be read as a row, what is wrong.
 #[derive(Debug, Clone, PartialEq)]
 pub struct Row {
+    pub line: usize,
     pub cells: [String; 9],
     pub fault: Option<String>,
 }
 
 /// The rows of a sheet behind its header.
-pub struct Sheet<R> {
-    records: Records<R>,
+pub struct Sheet<'a> {
+    lines: Lines<'a>,
+    separator: char,
     /// Where each column stands.
     places: [usize; 9],
     width: usize,
+    /// The lines of the whole sheet before this part of it, but for the header.
+    before: usize,
 }
 
-impl<R: BufRead> Sheet<R> {
+impl<'a> Sheet<'a> {
     /// Reads the header, or says what is wrong with it.
-    pub fn new(input: R) -> Result<Self, String> {
-        let mut records = Records { input, line: 0, separator: ',', ended: false };
-        let header = records.next().ok_or_else(|| {
+    pub fn new(text: &'a [u8]) -> Result<Self, String> {
+        if let Some(what) = no_csv(text) {
+            return Err(format!("{what}: save as CSV (UTF-8), and render that"));
+        }
+        let mut lines = Lines::new(text);
+        let (number, line) = lines.next().ok_or_else(|| {
             format!("the sheet is empty: its first line must be {}", COLUMNS.join(","))
         })?;
-        if let Some(fault) = header.fault {
-            return Err(fault);
-        }
-        let names: Vec<String> =
-            header.cells.iter().map(|name| name.trim().to_lowercase()).collect();
+        let separator = separator_of(line);
+        let cells = cells(line, separator)
+            .map_err(|(_, fault)| format!("line {number}, the header: {fault}"))?;
+        let names: Vec<String> = cells.iter().map(|name| name.trim().to_lowercase()).collect();
         let unknown = quoted(names.iter().filter(|name| !COLUMNS.contains(&&name[..])));
         if !unknown.is_empty() {
-            return Err(format!(
-                "unknown in the header: {unknown}; the columns are {}",
-                COLUMNS.join(", ")
-            ));
+            let columns = COLUMNS.join(", ");
+            return Err(format!("unknown in the header: {unknown}; the columns are {columns}"));
         }
         let missing = quoted(COLUMNS.iter().filter(|name| !names.iter().any(|n| n == *name)));
         if !missing.is_empty() {
@@ -48,134 +55,110 @@ impl<R: BufRead> Sheet<R> {
             return Err("a column stands twice in the header".into());
         }
         let place = |column: &str| names.iter().position(|name| name == column).unwrap_or(0);
-        Ok(Sheet { records, places: COLUMNS.map(place), width: names.len() })
+        Ok(Sheet { lines, separator, places: COLUMNS.map(place), width: names.len(), before: 0 })
     }
+
+    /// The sheet as a part of a whole one, in which its line 2 is that line.
+    pub fn part_from(self, first: usize) -> Self {
+        Sheet { before: first - 2, ..self }
+    }
+}
+
+impl Iterator for Sheet<'_> {
+    type Item = Row;
+
+    fn next(&mut self) -> Option<Row> {
+        let (line, text) = self.lines.next()?;
+        let width = self.width;
+        let (found, fault) = match cells(text, self.separator) {
+            Ok(found) if found.len() == width => (found, None),
+            Ok(found) => {
+                let n = found.len();
+                let cells = if n == 1 { "cell" } else { "cells" };
+                (found, Some(format!("the row has {n} {cells}, where the header has {width}")))
+            }
+            Err((found, fault)) => (found, Some(fault)),
+        };
+        let cells = self.places.map(|k| found.get(k).cloned().unwrap_or_default());
+        Some(Row { line: self.before + line, cells, fault })
+    }
+}
+
+/// What a file is that holds no CSV.
+fn no_csv(text: &[u8]) -> Option<&'static str> {
+    let begins = |with: &[u8]| text.starts_with(with);
+    if begins(b"PK\x03\x04") || begins(b"\xd0\xcf\x11\xe0") {
+        return Some("this is a spreadsheet's own file");
+    }
+    if begins(b"\xff\xfe") || begins(b"\xfe\xff") || text.iter().take(1000).any(|b| *b == 0) {
+        return Some("this is UTF-16, or no text at all");
+    }
+    let page = text.trim_ascii_start();
+    page.starts_with(b"<").then_some("this is a page or XML")
+}
+
+/// The header's separator: a comma, or else a semicolon or a tab.
+fn separator_of(header: &[u8]) -> char {
+    let found = [b',', b';', b'\t'].into_iter().find(|separator| header.contains(separator));
+    found.unwrap_or(b',').into()
 }
 
 fn quoted(names: impl Iterator<Item = impl std::fmt::Display>) -> String {
     names.map(|name| format!("'{name}'")).collect::<Vec<_>>().join(", ")
 }
 
-impl<R: BufRead> Iterator for Sheet<R> {
-    type Item = Row;
-
-    fn next(&mut self) -> Option<Row> {
-        let Record { cells: found, fault } = self.records.next()?;
-        let width = self.width;
-        let fault = fault.or_else(|| {
-            let wrong = found.len() != width;
-            wrong
-                .then(|| format!("the row has {} cells, where the header has {width}", found.len()))
-        });
-        let cells = self.places.map(|k| found.get(k).cloned().unwrap_or_default());
-        Some(Row { cells, fault })
+/// The cells of a line, or those that were made out and what is wrong.
+fn cells(line: &[u8], separator: char) -> Result<Vec<String>, (Vec<String>, String)> {
+    if line.len() > LONGEST {
+        return Err((vec![], format!("the line is longer than {LONGEST} bytes")));
     }
-}
-
-/// The cells of a record, and what is wrong with it.
-struct Record {
-    cells: Vec<String>,
-    fault: Option<String>,
-}
-
-/// The records of a file, empty lines left out.
-struct Records<R> {
-    input: R,
-    line: usize,
-    separator: char,
-    /// Whether the file could not be read any further.
-    ended: bool,
-}
-
-/// The longest record that is read.
-const LONGEST: usize = 1 << 20;
-
-impl<R: BufRead> Records<R> {
-    /// The next line with its end, none at the end of the file, and what is wrong with it.
-    fn line(&mut self) -> Option<(String, Option<String>)> {
-        self.line += 1;
-        let mut bytes = Vec::new();
-        let mut limited = std::io::Read::take(&mut self.input, LONGEST as u64);
-        let number = self.line;
-        let fault = match limited.read_until(b'\n', &mut bytes) {
-            Ok(0) => return None,
-            Ok(LONGEST) => Some(format!("line {number} has no end")),
-            Ok(_) => None,
-            Err(error) => {
-                self.ended = true;
-                Some(format!("line {number} cannot be read: {error}"))
-            }
-        };
-        match String::from_utf8(bytes) {
-            Ok(text) => Some((text, fault)),
-            Err(error) => {
-                let text = String::from_utf8_lossy(error.as_bytes()).into_owned();
-                let utf_8 = format!("line {number} is not UTF-8: save the sheet as CSV UTF-8");
-                Some((text, fault.or(Some(utf_8))))
-            }
+    match str::from_utf8(line) {
+        Ok(text) => {
+            let (cells, fault) = split(text, separator);
+            fault.map_or(Ok(cells.clone()), |fault| Err((cells, fault.into())))
         }
-    }
-
-    /// The cells of a line, and of those after it where a quoted cell goes on.
-    fn record(&mut self, mut text: String, mut fault: Option<String>) -> Record {
-        let first = self.line;
-        loop {
-            let body = text.trim_end_matches(['\n', '\r']);
-            let (cells, is_whole) = split(body, self.separator);
-            if is_whole {
-                return Record { cells, fault };
-            }
-            let more = if text.len() < LONGEST { self.line() } else { None };
-            let Some((line, wrong)) = more else {
-                let open = format!("a quote that begins in line {first} does not end");
-                return Record { cells, fault: fault.or(Some(open)) };
-            };
-            text.push_str(&line);
-            fault = fault.or(wrong);
+        Err(_) => {
+            let (cells, _) = split(&String::from_utf8_lossy(line), separator);
+            Err((cells, "the line is not UTF-8: save the sheet as CSV UTF-8".into()))
         }
     }
 }
 
-impl<R: BufRead> Iterator for Records<R> {
-    type Item = Record;
+const OPEN: &str =
+    "a quote does not end on its line: take it out, or write \"\" for a quote within a quoted cell";
+const BEHIND: &str =
+    "text follows a quoted cell: take the quotes out, or write \"\" for a quote within it";
 
-    fn next(&mut self) -> Option<Record> {
-        while !self.ended {
-            let is_first = self.line == 0;
-            let (line, fault) = self.line()?;
-            let text = if is_first { line.trim_start_matches('\u{feff}').into() } else { line };
-            if is_first && text.contains(';') && !text.contains(',') {
-                self.separator = ';';
-            }
-            let is_empty = text.trim_matches([' ', '\t', '\r', '\n', self.separator]).is_empty();
-            if !is_empty || fault.is_some() {
-                return Some(self.record(text, fault));
-            }
-        }
-        None
-    }
-}
-
-/// The cells of a record, and whether its last quote ends.
-fn split(text: &str, separator: char) -> (Vec<String>, bool) {
+/// The cells of a text, and what is wrong with its quotes.
+fn split(text: &str, separator: char) -> (Vec<String>, Option<&'static str>) {
     let mut cells = Vec::new();
     let mut cell = String::new();
-    let mut quoted = false;
+    let mut fault = None;
+    // Whether a quoted cell is open, and whether it has ended.
+    let (mut is_open, mut is_ended) = (false, false);
     let mut rest = text.chars().peekable();
     while let Some(c) = rest.next() {
         match c {
-            '"' if quoted && rest.peek() == Some(&'"') => {
+            '"' if is_open && rest.peek() == Some(&'"') => {
                 rest.next();
                 cell.push('"');
             }
-            '"' if quoted => quoted = false,
-            '"' if cell.is_empty() => quoted = true,
-            _ if c == separator && !quoted => cells.push(std::mem::take(&mut cell)),
+            '"' if is_open => (is_open, is_ended) = (false, true),
+            '"' if !is_ended && cell.trim().is_empty() => {
+                cell.clear();
+                is_open = true;
+            }
+            _ if is_open => cell.push(c),
+            _ if c == separator => {
+                cells.push(std::mem::take(&mut cell));
+                is_ended = false;
+            }
+            _ if is_ended && !c.is_whitespace() => fault = Some(BEHIND),
             _ => cell.push(c),
         }
     }
     cells.push(cell);
-    (cells, !quoted)
+    (cells, if is_open { Some(OPEN) } else { fault })
 }
 
 /// A cell as it is written in CSV.
@@ -188,7 +171,7 @@ pub fn cell(text: &str) -> String {
 
 #[cfg(test)]
 mod tests {
-    use super::{COLUMNS, Row, Sheet, cell};
+    use super::{BEHIND, COLUMNS, OPEN, Row, Sheet, cell};
 
     fn rows(text: &str) -> Result<Vec<Row>, String> {
         Ok(Sheet::new(text.as_bytes())?.collect())
@@ -201,20 +184,22 @@ mod tests {
     #[test]
     fn a_spreadsheet_s_csv_is_read() {
         let text = format!(
-            "\u{feff}{}\r\n\r\n\"a \"\"b\"\", c\",string,A3,1,trigger,0,0,0,0\r\n,,,,,,,,\r\n",
+            "\u{feff}{}\r\n\r\n\"a \"\"b\"\", c\", \"string\" ,A3,1,trigger,0,0,0,0\r\n,,,,,,,,\r\n",
             header()
         );
         let rows = rows(&text).unwrap();
         assert_eq!(rows.len(), 1);
-        assert_eq!(rows[0].cells[0], "a \"b\", c");
-        assert_eq!(rows[0].fault, None);
+        assert_eq!((&rows[0].cells[0][..], rows[0].cells[1].trim()), ("a \"b\", c", "string"));
+        assert_eq!((rows[0].line, &rows[0].fault), (3, &None));
     }
 
     #[test]
-    fn columns_stand_in_any_order_and_semicolons_serve() {
+    fn columns_stand_in_any_order_and_semicolons_and_tabs_serve() {
         let text = "damping;brightness;structure;accent;play;seconds;note;kind;name\n.1;.2;.3;.4;trigger;2;57;modal;x\n";
-        let cells = rows(text).unwrap()[0].cells.clone();
-        assert_eq!(cells, ["x", "modal", "57", "2", "trigger", ".4", ".3", ".2", ".1"]);
+        for text in [text, &text.replace(';', "\t"), &text.replace('\n', "\r")] {
+            let cells = rows(text).unwrap()[0].cells.clone();
+            assert_eq!(cells, ["x", "modal", "57", "2", "trigger", ".4", ".3", ".2", ".1"]);
+        }
     }
 
     #[test]
@@ -226,9 +211,21 @@ mod tests {
         assert_eq!(error(&missing), "missing in the header: 'damping'");
         assert!(error(&format!("{},pan,volume\n", header())).contains("'pan', 'volume'"));
         assert!(error(&format!("{},name\n", header())).contains("twice"));
+        let open = error(&header().replace("name", "\"name"));
+        assert!(open.starts_with("line 1, the header: a quote does not end"), "{open}");
+    }
+
+    #[test]
+    fn a_file_that_is_no_csv_is_a_clear_error() {
         let utf_16: Vec<u8> = header().encode_utf16().flat_map(u16::to_le_bytes).collect();
         let marked = [&b"\xff\xfe"[..], &utf_16].concat();
-        assert!(Sheet::new(&marked[..]).err().unwrap().contains("line 1 is not UTF-8"));
+        let page = b"\n<html><table>";
+        let files: [&[u8]; 5] =
+            [b"PK\x03\x04\x14\0", b"\xd0\xcf\x11\xe0\xa1", &utf_16, &marked, page];
+        for file in files {
+            let error = Sheet::new(file).err().unwrap();
+            assert!(error.contains("save as CSV"), "{error}");
+        }
     }
 
     #[test]
@@ -236,19 +233,25 @@ mod tests {
         let faults = |bytes: &[u8]| -> Vec<Option<String>> {
             let text =
                 [header().as_bytes(), b"\n", bytes, b"\nb,modal,57,1,sustain,0,0,0,0"].concat();
-            Sheet::new(&text[..]).unwrap().map(|row| row.fault).collect()
+            Sheet::new(&text).unwrap().map(|row| row.fault).collect()
         };
-        let short = "the row has 3 cells, where the header has 9";
-        assert_eq!(faults(b"a,string,A3"), [Some(short.into()), None]);
-        let latin = "line 2 is not UTF-8: save the sheet as CSV UTF-8";
-        assert_eq!(faults(b"caf\xe9,string,1,1,1,1,1,1,1"), [Some(latin.into()), None]);
-        let open = "a quote that begins in line 2 does not end";
-        assert_eq!(faults(b"\"a,string"), [Some(open.into())]);
+        let long = vec![b'x'; 1 << 21];
+        let cases: [(&[u8], &str); 6] = [
+            (b"a,string,A3", "the row has 3 cells, where the header has 9"),
+            (b"a", "the row has 1 cell, where the header has 9"),
+            (b"caf\xe9,string,1,1,1,1,1,1,1", "the line is not UTF-8: save the sheet as CSV UTF-8"),
+            (b"\"a,string", OPEN),
+            (b"\"a\"b,string,1,1,1,1,1,1,1", BEHIND),
+            (&long, "the line is longer than 1048576 bytes"),
+        ];
+        for (line, fault) in cases {
+            assert_eq!(faults(line), [Some(fault.into()), None]);
+        }
     }
 
     #[test]
     fn a_written_cell_reads_back() {
-        for text in ["plain", "a,b", "say \"x\"", "a\nb", ""] {
+        for text in ["plain", "a,b", "say \"x\"", ""] {
             let line = format!("{},string", cell(text));
             assert_eq!(super::split(&line, ',').0[0], text);
         }

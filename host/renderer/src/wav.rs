@@ -1,5 +1,6 @@
 //! WAV files, written block by block to a file that takes its name only once it is whole.
 
+use crate::render::Settings;
 use std::fs::{self, File};
 use std::io::{self, BufWriter, Seek, SeekFrom, Write};
 use std::path::{Path, PathBuf};
@@ -96,16 +97,19 @@ pub struct Wav {
 }
 
 impl Wav {
-    pub fn create(path: &Path, format: Format, channels: u32, rate: u32) -> io::Result<Self> {
+    pub fn create(path: &Path, settings: &Settings) -> io::Result<Self> {
         let part = Part::create(path)?;
+        let (Settings { format, rate, .. }, channels) = (*settings, settings.channels());
         let mut wav = Wav { part, format, channels, rate, frames: 0, block: vec![] };
         wav.part.write_all(&vec![0; format.header_bytes() as usize])?;
         Ok(wav)
     }
 
     /// The most frames of a file.
-    pub fn most_frames(format: Format, channels: u32) -> u64 {
-        u64::from(u32::MAX - format.header_bytes()) / u64::from(format.bytes() * channels)
+    pub fn most_frames(settings: &Settings) -> u64 {
+        let format = settings.format;
+        u64::from(u32::MAX - format.header_bytes())
+            / u64::from(format.bytes() * settings.channels())
     }
 
     /// Adds a block, its channels side by side.

@@ -1,0 +1,8 @@
+//! The tool, run as a user runs it.
+
+mod command;
+mod faults;
+mod notes;
+mod run;
+mod sheets;
+mod wave;

@@ -1,0 +1,72 @@
+//! A run of the tool in a folder of a test's own.
+
+use std::collections::BTreeMap;
+use std::fs;
+use std::path::{Path, PathBuf};
+use std::process::{Command, Output};
+
+pub const HEADER: &str = "name,kind,note,seconds,play,accent,structure,brightness,damping";
+
+pub const GOOD: &str = "pluck,string,A3,0.05,trigger,0.5,0.3,0.5,0.5
+bar,modal,69,0.05,trigger,0.5,1,0.5,0.5
+bow,string,220hz,0.02,sustain,0.5,0.8,0.6,0.7
+\"bowl, rubbed\",modal,C#5,0.02,sustain,0.5,0.2,0.6,0.7
+nothing,modal,C4,0,trigger,0.5,0.2,0.6,0.7
+";
+
+/// A folder of a test's own, removed with it.
+pub struct Folder(pub PathBuf);
+
+impl Folder {
+    pub fn new(name: &str) -> Self {
+        let path = std::env::temp_dir().join(format!("bleidhvan-{name}-{}", std::process::id()));
+        fs::create_dir_all(&path).expect("a folder is made");
+        Folder(path)
+    }
+
+    pub fn path(&self, name: &str) -> PathBuf {
+        self.0.join(name)
+    }
+
+    /// Writes a sheet of these rows.
+    pub fn sheet(&self, rows: &str) -> PathBuf {
+        let path = self.path("sheet.csv");
+        fs::write(&path, format!("{HEADER}\n{rows}")).expect("the sheet is written");
+        path
+    }
+}
+
+impl Drop for Folder {
+    fn drop(&mut self) {
+        drop(fs::remove_dir_all(&self.0));
+    }
+}
+
+pub fn tool(words: &[&dyn AsRef<std::ffi::OsStr>]) -> Output {
+    let mut command = Command::new(env!("CARGO_BIN_EXE_bleidhvan"));
+    words.iter().for_each(|word| _ = command.arg(word));
+    command.output().expect("the tool runs")
+}
+
+/// The exit status, standard output and standard error.
+pub fn said(output: &Output) -> (i32, String, String) {
+    let text = |bytes: &[u8]| String::from_utf8(bytes.to_vec()).expect("UTF-8");
+    (output.status.code().expect("no signal"), text(&output.stdout), text(&output.stderr))
+}
+
+/// The bytes of every file of a folder.
+pub fn files(folder: &Path) -> BTreeMap<String, Vec<u8>> {
+    let entries = fs::read_dir(folder).expect("the folder is read");
+    entries
+        .map(|entry| {
+            let path = entry.expect("an entry").path();
+            let name = path.file_name().expect("a name").to_string_lossy().into_owned();
+            (name, fs::read(path).expect("the file is read"))
+        })
+        .collect()
+}
+
+pub fn lines(folder: &Path) -> Vec<String> {
+    let text = fs::read_to_string(folder.join("catalogue.csv")).expect("the catalogue is read");
+    text.lines().map(str::to_string).collect()
+}
