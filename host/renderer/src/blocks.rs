@@ -81,14 +81,14 @@ mod tests {
     use super::{LONG, SHORT};
     use crate::chance::Chance;
     use crate::order::Orders;
-    use crate::progress::Progress;
     use crate::render::Settings;
-    use crate::run::run;
+    use crate::run::Run;
     use crate::sheet::{COLUMNS, Sheet};
+    use crate::stop::Stop;
+    use crate::tests::Folder;
     use crate::wav::Format;
     use std::collections::BTreeMap;
     use std::fs;
-    use std::sync::atomic::{AtomicUsize, Ordering};
 
     impl Chance {
         /// A knob: one of a few values, or any.
@@ -143,26 +143,20 @@ mod tests {
 
     /// The files of a sheet of these rows, which are all rendered.
     fn files(rows: &str, settings: &Settings) -> BTreeMap<String, Vec<u8>> {
-        static FOLDERS: AtomicUsize = AtomicUsize::new(0);
-        let number = FOLDERS.fetch_add(1, Ordering::Relaxed);
-        let name = format!("bleidhvan-blocks-{}-{number}", std::process::id());
-        let folder = std::env::temp_dir().join(name);
-        fs::create_dir_all(&folder).expect("a folder is made");
+        let folder = Folder::new("blocks");
         let text = format!("{}\n{rows}", COLUMNS.join(","));
         let sheet = Sheet::new(text.as_bytes()).expect("the sheet has its header");
         let orders = Orders::new(sheet, settings);
-        let progress = Progress::new(true, 0);
-        let sum = run(orders, &folder, settings, 2, &progress).expect("the folder is written");
+        let run = Run { folder: &folder.0, settings, jobs: 2, stop: &Stop::default() };
+        let sum = run.run(orders, |order| run.play(order)).expect("the folder is written");
         assert_eq!(sum.rendered, rows.lines().count());
-        let entries = fs::read_dir(&folder).expect("the folder is read");
+        let entries = fs::read_dir(&folder.0).expect("the folder is read");
         let files = entries.map(|entry| {
             let path = entry.expect("an entry").path();
             let name = path.file_name().expect("a name").to_string_lossy().into_owned();
             (name, fs::read(path).expect("the file is read"))
         });
-        let files = files.collect();
-        fs::remove_dir_all(&folder).expect("the folder is removed");
-        files
+        files.collect()
     }
 
     /// Holds the files of a sheet, with its catalogue and its page, to those of short blocks throughout.

@@ -1,9 +1,11 @@
 //! The catalogue as a page: no network and no script.
 
-use crate::catalogue::{Entry, file_of};
-use crate::render::{COLUMNS, Rendered};
+use crate::catalogue::file_of;
+use crate::order::Order;
+use crate::outcome::{Outcome, Rendered, Sum};
+use crate::part::Part;
 use crate::sheet::COLUMNS as NAMES;
-use crate::wav::Part;
+use crate::wave::COLUMNS;
 use std::io::{self, Write};
 
 const HEAD: &str = "<!DOCTYPE html>
@@ -26,48 +28,52 @@ audio { width: 16rem }
 ";
 
 /// The bytes of the line that sums up the notes.
-const SUM: usize = 96;
+const SUM: usize = 160;
 
 /// The line that sums up the notes, padded so that it can be written over.
-fn sum(rendered: usize, refused: usize) -> String {
-    let ordered = rendered + refused;
-    let line = format!("<p>{ordered} notes ordered: {rendered} rendered, {refused} refused.</p>");
+fn summed(sum: &Sum) -> String {
+    let line = format!("<p>{}.</p>", sum.text());
     format!("{line:<SUM$}\n")
 }
 
 /// Writes the page's beginning.
 pub fn begin(page: &mut impl Write) -> io::Result<()> {
-    writeln!(page, "{HEAD}{}<table>", sum(0, 0))?;
+    writeln!(page, "{HEAD}{}<table>", summed(&Sum::default()))?;
     writeln!(page, "<thead><tr><th>Name<th>Sound<th>Waveform<th>Knobs</thead>\n<tbody>")
 }
 
 /// The page's last line, and the sum with its place.
-pub fn end(page: &mut Part, rendered: usize, refused: usize) -> io::Result<()> {
+pub fn end(page: &mut Part, sum: &Sum) -> io::Result<()> {
     writeln!(page, "</table>")?;
-    page.overwrite(HEAD.len() as u64, sum(rendered, refused).as_bytes())
+    page.overwrite(HEAD.len() as u64, summed(sum).as_bytes())
 }
 
 /// The lines of a note.
-pub fn row(entry: &Entry) -> String {
-    let (row, name) = (&entry.row, escaped(entry.name()));
+pub fn row(order: &Order, outcome: &Outcome) -> String {
+    let (row, name) = (&order.row, escaped(order.name()));
     let [_, kind, note, seconds, play, ..] = row.cells.each_ref().map(|text| escaped(text.trim()));
     let knobs: Vec<String> = NAMES.iter().zip(&row.cells).skip(5).map(knob).collect();
     let knobs = format!("{kind}, {note}, {seconds} s, {play}<br>{}", knobs.join(", "));
-    match &entry.outcome {
-        Ok(rendered) => {
-            let file = escaped(&url(&file_of(entry.name())));
+    let without_sound = |what: &str, number: Option<u32>, reason: &str| {
+        let number = number.map_or(String::new(), |number| format!(" (number {number})"));
+        let (reason, line) = (escaped(reason), row.line);
+        format!(
+            "<tr class=\"refused\"><th>{name}<td colspan=\"2\">Line {line} {what}{number}{reason}.<td class=\"knobs\">{knobs}\n"
+        )
+    };
+    match outcome {
+        Outcome::Rendered(rendered) => {
+            let file = escaped(&url(&file_of(order.name())));
             format!(
                 "<tr><th>{name}<td><audio controls preload=\"none\" src=\"{file}\"></audio><td>{}<td class=\"knobs\">{knobs}\n",
                 waveform(rendered, &name)
             )
         }
-        Err(fault) => {
-            let number = fault.number.map_or(String::new(), |number| format!(" (number {number})"));
-            let (reason, line) = (escaped(&fault.reason), row.line);
-            format!(
-                "<tr class=\"refused\"><th>{name}<td colspan=\"2\">Line {line} refused{number}: {reason}.<td class=\"knobs\">{knobs}\n"
-            )
+        Outcome::Refused(fault) => {
+            without_sound("refused", fault.number, &format!(": {}", fault.reason))
         }
+        Outcome::Failed(reason) => without_sound("failed", None, &format!(": {reason}")),
+        Outcome::NotRendered => without_sound("not rendered", None, ""),
     }
 }
 
@@ -83,7 +89,7 @@ fn waveform(rendered: &Rendered, name: &str) -> String {
         if height.is_finite() { height } else { 24.0 }
     };
     let mut path = String::new();
-    for (x, [low, high]) in rendered.wave.iter().enumerate() {
+    for (x, [low, high]) in rendered.wave.columns.iter().enumerate() {
         path += &format!("M{x}.5 {:.1}V{:.1}", place(*high) - 0.3, place(*low) + 0.3);
     }
     format!(

@@ -3,12 +3,9 @@
 use crate::chance::Chance;
 use crate::lines::counted;
 use crate::order::Orders;
-use crate::render::Settings;
-use crate::sheet::{COLUMNS, Sheet};
-use crate::wav::Format;
 
-const SETTINGS: Settings =
-    Settings { seed: 0, rate: 48000, format: Format::Float32, aux: false, longest: 24 };
+use crate::sheet::{COLUMNS, Sheet};
+use crate::tests::SETTINGS;
 
 /// A line as it was written: its number, its text, and whether it was left whole.
 struct Written {

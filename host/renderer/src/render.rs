@@ -2,14 +2,14 @@
 
 use crate::blocks::{Block, Blocks, SHORT};
 use crate::note::{Fault, Note};
+use crate::outcome::{Outcome, Rendered};
 use crate::sheet::Row;
+use crate::stop::Stop;
 use crate::wav::{Format, Wav};
-use bleidhvan::{Bank, Counts};
+use crate::wave::Wave;
+use bleidhvan::{Bank, Counts, Refusal};
 use std::io;
 use std::path::Path;
-
-/// The columns of a drawn waveform.
-pub const COLUMNS: usize = 240;
 
 /// What every note of a sheet is rendered with.
 #[derive(Debug, Clone, Copy)]
@@ -35,24 +35,13 @@ impl Settings {
     }
 }
 
-/// What was rendered.
-#[derive(Debug, Clone)]
-pub struct Rendered {
-    pub frames: u64,
-    /// The frames so far.
-    done: u64,
-    pub peak: f32,
-    pub burst: u64,
-    pub dust: u64,
-    pub dispersion: u64,
-    /// The lowest and the highest sample of each column of the waveform.
-    pub wave: Vec<[f32; 2]>,
-}
-
-/// Why there is no file: the bank refused, or it could not be written.
-pub enum Failure {
-    Refused(Fault),
+/// Why there is no file.
+enum Failure {
+    Refused(Refusal),
     Unwritten(io::Error),
+    Stopped,
+    /// A NaN is heard, and the blocks are long.
+    Nan,
 }
 
 /// The seed of a note: the sheet's seed and the name, so that a note sounds the same wherever it stands in a sheet.
@@ -61,38 +50,62 @@ fn seed_of(seed: u32, name: &str) -> u32 {
     seed.to_le_bytes().into_iter().chain(name.bytes()).fold(2166136261, step)
 }
 
-/// Renders the note of a row to the file at the path.
-pub fn render(
+/// Renders the note of a row to the file at the path, which has not its name yet.
+pub fn render(row: &Row, note: &Note, settings: &Settings, path: &Path, stop: &Stop) -> Outcome {
+    match blocks(row, note, settings, path, stop) {
+        Ok(rendered) => Outcome::Rendered(Box::new(rendered)),
+        // A NaN has many bits, and which of them are heard hangs on where the blocks end.
+        Err(Failure::Nan) => {
+            render(row, note, &Settings { longest: SHORT, ..*settings }, path, stop)
+        }
+        Err(Failure::Refused(refusal)) => {
+            Outcome::Refused(Fault::refusal(refusal, row, settings.rate))
+        }
+        Err(Failure::Unwritten(error)) => Outcome::unwritten(&error),
+        Err(Failure::Stopped) => Outcome::NotRendered,
+    }
+}
+
+fn blocks(
     row: &Row,
     note: &Note,
     settings: &Settings,
     path: &Path,
+    stop: &Stop,
 ) -> Result<Rendered, Failure> {
-    let refused = |refusal| Failure::Refused(Fault::refusal(refusal, row, settings.rate));
     let mut bank = Bank::new(seed_of(settings.seed, row.cells[0].trim()));
-    bank.open(0, note.kind, settings.rate as f32).map_err(refused)?;
+    bank.open(0, note.kind, settings.rate as f32)?;
     let frames = settings.frames(note);
     let mut blocks = Blocks::new(bank, note, settings.longest);
-    let mut rendered = Rendered::new(frames);
+    let mut wave = Wave::new(frames);
+    let mut sum = [0_u64; 3];
+    let mut done = 0;
     let mut wav = None;
     // A note of no frames is one block of none, so that its knobs are read as any other's.
-    while wav.is_none() || rendered.done < frames {
-        let Block { out, aux, counts } = blocks.next(frames - rendered.done).map_err(refused)?;
+    while wav.is_none() || done < frames {
+        if stop.is_asked() {
+            return Err(Failure::Stopped);
+        }
+        let Block { out, aux, counts } = blocks.next(frames - done)?;
         let heard = &[out, aux][..settings.channels() as usize];
         if settings.longest > SHORT && heard.iter().any(|channel| has_nan(channel)) {
-            // A NaN has many bits, and which of them are heard hangs on where the blocks end.
-            drop(wav);
-            return render(row, note, &Settings { longest: SHORT, ..*settings }, path);
+            return Err(Failure::Nan);
         }
         let file = match &mut wav {
             Some(file) => file,
-            None => wav.insert(Wav::create(path, settings)?),
+            None => wav.insert(Wav::create(path, settings, frames)?),
         };
         file.write(heard)?;
-        rendered.add(out, counts);
+        wave.add(out);
+        done += out.len() as u64;
+        let Counts { burst, dust, dispersion } = counts;
+        for (sum, words) in sum.iter_mut().zip([burst, dust, dispersion]) {
+            *sum += words as u64;
+        }
     }
-    wav.map_or(Ok(()), Wav::finish)?;
-    Ok(rendered)
+    let (file, checksum) = wav.map(Wav::close).ok_or(Failure::Stopped)??;
+    let ([burst, dust, dispersion], peak) = (sum, wave.peak());
+    Ok(Rendered { frames, peak, burst, dust, dispersion, wave, checksum, file: Some(file) })
 }
 
 /// Whether a sample is a NaN; all are looked at, many at once.
@@ -100,51 +113,14 @@ fn has_nan(samples: &[f32]) -> bool {
     samples.iter().fold(false, |found, sample| found | sample.is_nan())
 }
 
-/// The lowest and the highest of a range and of samples, a NaN left out.
-fn widened([low, high]: [f32; 2], samples: &[f32]) -> [f32; 2] {
-    let (lanes, rest) = samples.as_chunks::<8>();
-    let (mut lows, mut highs) = ([low; 8], [high; 8]);
-    for samples in lanes {
-        for (k, sample) in samples.iter().enumerate() {
-            lows[k] = lows[k].min(*sample);
-            highs[k] = highs[k].max(*sample);
-        }
+impl From<Refusal> for Failure {
+    fn from(refusal: Refusal) -> Self {
+        Failure::Refused(refusal)
     }
-    let low = lows.iter().chain(rest).fold(low, |low, sample| low.min(*sample));
-    let high = highs.iter().chain(rest).fold(high, |high, sample| high.max(*sample));
-    [low, high]
 }
 
 impl From<io::Error> for Failure {
     fn from(error: io::Error) -> Self {
         Failure::Unwritten(error)
-    }
-}
-
-impl Rendered {
-    fn new(frames: u64) -> Self {
-        let wave = vec![[0.0; 2]; COLUMNS];
-        Rendered { frames, done: 0, peak: 0.0, burst: 0, dust: 0, dispersion: 0, wave }
-    }
-
-    /// Adds a block.
-    fn add(&mut self, out: &[f32], counts: Counts) {
-        self.burst += counts.burst as u64;
-        self.dust += counts.dust as u64;
-        self.dispersion += counts.dispersion as u64;
-        let columns = COLUMNS as u64;
-        let mut rest = out;
-        while !rest.is_empty() {
-            let column = self.done * columns / self.frames;
-            // The first frame of the next column.
-            let next = ((column + 1) * self.frames).div_ceil(columns);
-            let n = (rest.len() as u64).min(next - self.done);
-            let (samples, later) = rest.split_at(n as usize);
-            let [low, high] = widened(self.wave[column as usize], samples);
-            self.wave[column as usize] = [low, high];
-            self.peak = self.peak.max(low.abs()).max(high);
-            self.done += n;
-            rest = later;
-        }
     }
 }

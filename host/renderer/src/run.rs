@@ -1,115 +1,111 @@
 //! A sheet rendered to a folder: every ordered note has its line, and the lines are in the sheet's order whatever the jobs.
 
-use crate::catalogue::{self, Entry, file_of};
-use crate::note::Fault;
+use crate::catalogue::{self, file_of};
 use crate::order::{Order, Orders};
+use crate::outcome::{Outcome, Sum};
 use crate::page;
-use crate::progress::Progress;
-use crate::render::{Failure, Rendered, Settings, render};
-use crate::wav::Part;
+use crate::part::Part;
+use crate::render::{Settings, render};
+use crate::stop::Stop;
+use crate::work::in_order;
 use std::io::{self, Write};
 use std::path::Path;
-use std::sync::atomic::{AtomicUsize, Ordering};
-use std::thread;
 
-/// How many notes were rendered and how many refused, and the first of these in words.
-#[derive(Debug, Default, Clone)]
-pub struct Sum {
-    pub ordered: usize,
-    pub rendered: usize,
-    pub refused: usize,
-    pub told: Vec<String>,
+/// Where and how a sheet is rendered.
+pub struct Run<'a> {
+    pub folder: &'a Path,
+    pub settings: &'a Settings,
+    pub jobs: usize,
+    pub stop: &'a Stop,
 }
 
-/// The refused notes that are told on the terminal.
-const TOLD: usize = 20;
+impl Run<'_> {
+    /// What becomes of an order.
+    pub fn play(&self, order: &Order) -> Outcome {
+        let path = self.folder.join(file_of(order.name()));
+        match &order.note {
+            Ok(note) => render(&order.row, note, self.settings, &path, self.stop),
+            Err(fault) => Outcome::Refused(fault.clone()),
+        }
+    }
 
-impl Sum {
-    fn add(&mut self, entry: &Entry) {
-        self.ordered += 1;
-        match &entry.outcome {
-            Ok(_) => self.rendered += 1,
-            Err(fault) => {
-                self.refused += 1;
-                if self.told.len() < TOLD {
-                    let (line, name) = (entry.row.line, entry.name());
-                    self.told.push(format!("line {line}, {name}: {}", fault.reason));
-                }
+    /// Plays orders into the folder, and writes the catalogue and the page.
+    pub fn run(&self, orders: Orders, play: impl Fn(&Order) -> Outcome + Sync) -> io::Result<Sum> {
+        let mut lines = Part::create(&self.folder.join("catalogue.csv"))?;
+        let mut page = Part::create(&self.folder.join("index.html"))?;
+        writeln!(lines, "{}", catalogue::HEADER)?;
+        page::begin(&mut page)?;
+        let mut sum = Sum::default();
+        in_order(orders, self.jobs, self.stop, play, |order, outcome| {
+            let outcome = named(outcome);
+            sum.add(&order, &outcome);
+            writeln!(lines, "{}", catalogue::line(&order, &outcome, self.settings))?;
+            page.write_all(page::row(&order, &outcome).as_bytes())
+        })?;
+        page::end(&mut page, &sum)?;
+        page.close()?.name()?;
+        lines.close()?.name()?;
+        Ok(sum)
+    }
+}
+
+/// The outcome with its file named, or failed.
+fn named(mut outcome: Outcome) -> Outcome {
+    if let Outcome::Rendered(rendered) = &mut outcome
+        && let Some(file) = rendered.file.take()
+        && let Err(error) = file.name()
+    {
+        return Outcome::unwritten(&error);
+    }
+    outcome
+}
+
+#[cfg(test)]
+mod tests {
+    use super::Run;
+    use crate::catalogue::HEADER;
+    use crate::order::Orders;
+    use crate::outcome::Sum;
+    use crate::sheet::{COLUMNS, Sheet};
+    use crate::stop::Stop;
+    use crate::tests::{Folder, SETTINGS};
+
+    /// Renders a sheet, halting at the notes whose names begin with 'halt'.
+    fn run_that_halts(rows: &str, folder: &Folder, jobs: usize) -> Sum {
+        let text = format!("{}\n{rows}", COLUMNS.join(","));
+        let orders = Orders::new(Sheet::new(text.as_bytes()).expect("a header"), &SETTINGS);
+        let stop = Stop::default();
+        let run = Run { folder: &folder.0, settings: &SETTINGS, jobs, stop: &stop };
+        let play = |order: &crate::order::Order| {
+            assert!(!order.name().starts_with("halt"), "here");
+            run.play(order)
+        };
+        run.run(orders, play).expect("the folder is written")
+    }
+
+    #[test]
+    fn a_worker_that_halts_takes_no_note_with_it() {
+        let rows: String = (0..60)
+            .map(|k| {
+                let name = if k % 7 == 3 { "halt" } else { "note" };
+                format!("{name} {k},modal,A3,0.01,trigger,0.5,0.4,0.5,0.5\n")
+            })
+            .collect();
+        for jobs in [1, 4] {
+            let folder = Folder::new("halt");
+            let sum = run_that_halts(&rows, &folder, jobs);
+            assert_eq!([sum.ordered, sum.rendered, sum.failed], [60, 51, 9]);
+            assert!(sum.is_whole(60));
+            let catalogue = folder.read("catalogue.csv");
+            let mut lines = catalogue.lines();
+            assert_eq!(lines.next(), Some(HEADER));
+            for (k, line) in lines.enumerate() {
+                let halted =
+                    format!("halt {k},failed,,,,,,,,,,,the renderer halted at it: here,{},", k + 2);
+                let whole = format!("note {k},rendered,note {k}.wav,480,");
+                assert!(line.starts_with(if k % 7 == 3 { &halted } else { &whole }), "{line}");
+                assert_eq!(folder.0.join(format!("note {k}.wav")).exists(), k % 7 != 3);
             }
         }
     }
-}
-
-/// The rows that a job has in hand at a time, so that memory does not grow with the sheet.
-const IN_HAND: usize = 8;
-
-/// Renders the orders of a sheet into a folder.
-pub fn run(
-    mut orders: Orders,
-    folder: &Path,
-    settings: &Settings,
-    jobs: usize,
-    progress: &Progress,
-) -> io::Result<Sum> {
-    let mut lines = Part::create(&folder.join("catalogue.csv"))?;
-    let mut page = Part::create(&folder.join("index.html"))?;
-    writeln!(lines, "{}", catalogue::HEADER)?;
-    page::begin(&mut page)?;
-    let mut sum = Sum::default();
-    loop {
-        let few: Vec<Order> = orders.by_ref().take(IN_HAND * jobs).collect();
-        if few.is_empty() {
-            break;
-        }
-        let outcomes = rendered(&few, folder, settings, jobs, progress);
-        for (Order { row, .. }, outcome) in few.into_iter().zip(outcomes) {
-            let entry = Entry { row, outcome };
-            sum.add(&entry);
-            writeln!(lines, "{}", entry.line())?;
-            page.write_all(page::row(&entry).as_bytes())?;
-        }
-    }
-    page::end(&mut page, sum.rendered, sum.refused)?;
-    page.finish()?;
-    lines.finish()?;
-    progress.end();
-    Ok(sum)
-}
-
-/// What became of orders, in their order.
-fn rendered(
-    orders: &[Order],
-    folder: &Path,
-    settings: &Settings,
-    jobs: usize,
-    progress: &Progress,
-) -> Vec<Result<Rendered, Fault>> {
-    let next = AtomicUsize::new(0);
-    let work = || {
-        let mut done = Vec::new();
-        while let Some((place, order)) =
-            Some(next.fetch_add(1, Ordering::Relaxed)).and_then(|k| Some((k, orders.get(k)?)))
-        {
-            done.push((place, outcome(order, folder, settings)));
-            progress.note();
-        }
-        done
-    };
-    let mut outcomes: Vec<_> = thread::scope(|scope| {
-        let workers: Vec<_> = (0..jobs).map(|_| scope.spawn(work)).collect();
-        workers.into_iter().flat_map(|worker| worker.join().unwrap_or_default()).collect()
-    });
-    outcomes.sort_by_key(|(place, _)| *place);
-    outcomes.into_iter().map(|(_, outcome)| outcome).collect()
-}
-
-fn outcome(order: &Order, folder: &Path, settings: &Settings) -> Result<Rendered, Fault> {
-    let note = order.note.as_ref().map_err(Fault::clone)?;
-    let path = folder.join(file_of(order.name()));
-    render(&order.row, note, settings, &path).map_err(|failure| match failure {
-        Failure::Refused(fault) => fault,
-        Failure::Unwritten(error) => {
-            Fault::row(format!("{} cannot be written: {error}", path.display()))
-        }
-    })
 }

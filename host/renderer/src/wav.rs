@@ -1,9 +1,11 @@
-//! WAV files, written block by block to a file that takes its name only once it is whole.
+//! WAV files, written block by block.
 
+use crate::checksum::{Checksum, Summing};
+use crate::part::{Part, Whole};
 use crate::render::Settings;
-use std::fs::{self, File};
-use std::io::{self, BufWriter, Seek, SeekFrom, Write};
-use std::path::{Path, PathBuf};
+use std::fmt;
+use std::io::{self, Write};
+use std::path::Path;
 
 /// How samples are written.
 #[derive(Debug, Clone, Copy, PartialEq, Eq)]
@@ -12,8 +14,17 @@ pub enum Format {
     Int16,
 }
 
+impl fmt::Display for Format {
+    fn fmt(&self, f: &mut fmt::Formatter<'_>) -> fmt::Result {
+        f.write_str(match self {
+            Format::Float32 => "float32",
+            Format::Int16 => "int16",
+        })
+    }
+}
+
 impl Format {
-    fn bytes(self) -> u32 {
+    pub fn bytes(self) -> u32 {
         match self {
             Format::Float32 => 4,
             Format::Int16 => 2,
@@ -21,7 +32,7 @@ impl Format {
     }
 
     /// The bytes of the header: floats have an extended format, and a chunk that counts the frames.
-    fn header_bytes(self) -> u32 {
+    pub fn header_bytes(self) -> u32 {
         match self {
             Format::Float32 => 58,
             Format::Int16 => 44,
@@ -29,79 +40,22 @@ impl Format {
     }
 }
 
-/// A file that has the name of its part until it is finished, and is removed where it is not.
-pub struct Part {
-    path: PathBuf,
-    part: PathBuf,
-    file: Option<BufWriter<File>>,
-}
-
-impl Part {
-    pub fn create(path: &Path) -> io::Result<Self> {
-        let mut name = path.file_name().ok_or(io::ErrorKind::InvalidInput)?.to_os_string();
-        name.push(".part");
-        let part = path.with_file_name(name);
-        let file = Some(BufWriter::new(File::create(&part)?));
-        Ok(Part { path: path.into(), part, file })
-    }
-
-    fn file(&mut self) -> io::Result<&mut BufWriter<File>> {
-        self.file.as_mut().ok_or(io::ErrorKind::NotConnected.into())
-    }
-
-    /// Writes bytes over those at a place, and goes on at the end.
-    pub fn overwrite(&mut self, place: u64, bytes: &[u8]) -> io::Result<()> {
-        let file = self.file()?;
-        file.seek(SeekFrom::Start(place))?;
-        file.write_all(bytes)?;
-        file.seek(SeekFrom::End(0)).map(|_| ())
-    }
-
-    /// Gives the file its name.
-    pub fn finish(mut self) -> io::Result<()> {
-        self.file()?.flush()?;
-        self.file = None;
-        fs::rename(&self.part, &self.path).inspect_err(|_| drop(fs::remove_file(&self.part)))
-    }
-}
-
-impl Write for Part {
-    fn write(&mut self, bytes: &[u8]) -> io::Result<usize> {
-        self.file()?.write(bytes)
-    }
-
-    fn flush(&mut self) -> io::Result<()> {
-        self.file()?.flush()
-    }
-}
-
-impl Drop for Part {
-    fn drop(&mut self) {
-        if let Some(file) = self.file.take() {
-            // What was not written yet is not wanted.
-            drop(file.into_parts());
-            drop(fs::remove_file(&self.part));
-        }
-    }
-}
-
 /// A WAV file in the making.
 pub struct Wav {
     part: Part,
+    sum: Summing,
     format: Format,
-    channels: u32,
-    rate: u32,
-    frames: u32,
     /// A block's bytes.
     block: Vec<u8>,
 }
 
 impl Wav {
-    pub fn create(path: &Path, settings: &Settings) -> io::Result<Self> {
+    /// Begins a file of so many frames.
+    pub fn create(path: &Path, settings: &Settings, frames: u64) -> io::Result<Self> {
         let part = Part::create(path)?;
-        let (Settings { format, rate, .. }, channels) = (*settings, settings.channels());
-        let mut wav = Wav { part, format, channels, rate, frames: 0, block: vec![] };
-        wav.part.write_all(&vec![0; format.header_bytes() as usize])?;
+        let sum = Summing::default();
+        let mut wav = Wav { part, sum, format: settings.format, block: header(settings, frames) };
+        wav.write_block()?;
         Ok(wav)
     }
 
@@ -118,44 +72,47 @@ impl Wav {
             Format::Float32 => interleave(channels, f32::to_le_bytes, &mut self.block),
             Format::Int16 => interleave(channels, |x| int16(x).to_le_bytes(), &mut self.block),
         }
-        self.part.write_all(&self.block)?;
-        self.frames += channels.first().map_or(0, |channel| channel.len()) as u32;
-        Ok(())
+        self.write_block()
     }
 
-    /// Writes the header and gives the file its name.
-    pub fn finish(mut self) -> io::Result<()> {
-        let header = self.header();
-        self.part.overwrite(0, &header)?;
-        self.part.finish()
+    fn write_block(&mut self) -> io::Result<()> {
+        self.sum.add(&self.block);
+        self.part.write_all(&self.block)
     }
 
-    fn header(&self) -> Vec<u8> {
-        let (bytes, channels) = (self.format.bytes(), self.channels);
-        let data = self.frames * bytes * channels;
-        let is_float = self.format == Format::Float32;
-        let mut header = Vec::new();
-        header.extend(b"RIFF");
-        header.extend((self.format.header_bytes() - 8 + data).to_le_bytes());
-        header.extend(b"WAVEfmt ");
-        header.extend(if is_float { 18u32 } else { 16 }.to_le_bytes());
-        header.extend(if is_float { 3u16 } else { 1 }.to_le_bytes());
-        header.extend((channels as u16).to_le_bytes());
-        header.extend(self.rate.to_le_bytes());
-        header.extend((self.rate * bytes * channels).to_le_bytes());
-        header.extend(((bytes * channels) as u16).to_le_bytes());
-        header.extend((8 * bytes as u16).to_le_bytes());
-        if is_float {
-            // No extension of the format follows.
-            header.extend(0u16.to_le_bytes());
-            header.extend(b"fact");
-            header.extend(4u32.to_le_bytes());
-            header.extend(self.frames.to_le_bytes());
-        }
-        header.extend(b"data");
-        header.extend(data.to_le_bytes());
-        header
+    /// Closes the file, whose frames are all written.
+    pub fn close(self) -> io::Result<(Whole, Checksum)> {
+        Ok((self.part.close()?, self.sum.end()))
     }
+}
+
+/// The header of a file of so many frames, at most `most_frames`.
+fn header(settings: &Settings, frames: u64) -> Vec<u8> {
+    let Settings { format, rate, .. } = *settings;
+    let (bytes, channels, frames) = (format.bytes(), settings.channels(), frames as u32);
+    let data = frames * bytes * channels;
+    let is_float = format == Format::Float32;
+    let mut header = Vec::new();
+    header.extend(b"RIFF");
+    header.extend((format.header_bytes() - 8 + data).to_le_bytes());
+    header.extend(b"WAVEfmt ");
+    header.extend(if is_float { 18u32 } else { 16 }.to_le_bytes());
+    header.extend(if is_float { 3u16 } else { 1 }.to_le_bytes());
+    header.extend((channels as u16).to_le_bytes());
+    header.extend(rate.to_le_bytes());
+    header.extend((rate * bytes * channels).to_le_bytes());
+    header.extend(((bytes * channels) as u16).to_le_bytes());
+    header.extend((8 * bytes as u16).to_le_bytes());
+    if is_float {
+        // No extension of the format follows.
+        header.extend(0u16.to_le_bytes());
+        header.extend(b"fact");
+        header.extend(4u32.to_le_bytes());
+        header.extend(frames.to_le_bytes());
+    }
+    header.extend(b"data");
+    header.extend(data.to_le_bytes());
+    header
 }
 
 /// The bytes of every sample, the channels side by side.

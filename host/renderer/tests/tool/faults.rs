@@ -1,33 +1,120 @@
 //! Faults of the machine.
 
-use crate::run::{Folder, GOOD, files, lines, said, tool};
-use std::fs;
+use crate::run::{Folder, GOOD, files, lines, said, tool_in};
 use std::path::Path;
-use std::process::Command;
+use std::process::{Child, Command, Stdio};
+use std::thread::sleep;
+use std::time::{Duration, Instant};
 
-#[cfg(target_os = "linux")]
-#[test]
-fn a_full_disk_loses_one_note_and_leaves_no_part() {
-    let folder = Folder::new("full");
-    let out = folder.path("notes");
-    fs::create_dir_all(&out).expect("a folder is made");
-    let part = out.join("pluck.wav.part");
-    assert!(Path::new("/dev/full").exists(), "the test needs a device that is always full");
-    std::os::unix::fs::symlink("/dev/full", &part).expect("a link is made");
-    let sheet = folder.sheet(GOOD);
-    let (status, text, _) = said(&tool(&[&"render", &sheet, &"-o", &out]));
-    assert_eq!(status, 1);
-    assert!(text.starts_with("5 notes ordered = 4 rendered + 1 refused\n"), "{text}");
-    assert!(lines(&out)[1].contains("pluck.wav cannot be written: No space left on device"));
-    assert!(files(&out).into_keys().all(|name| !name.ends_with(".part") && name != "pluck.wav"));
-    std::os::unix::fs::symlink("/dev/full", out.join("catalogue.csv.part"))
-        .expect("a link is made");
-    let (status, _, error) = said(&tool(&[&"render", &sheet, &"-o", &out]));
-    assert_eq!(status, 2);
-    assert!(error.contains("cannot be written: No space left on device"), "{error}");
+/// A long sheet: notes of 3 seconds.
+fn long(notes: usize) -> String {
+    let row = |k| format!("n{k},string,{},3,trigger,0.5,0.3,0.6,0.7\n", 30 + k % 60);
+    (0..notes).map(row).collect()
 }
 
-#[cfg(target_os = "linux")]
+/// The lines of a catalogue that have a status.
+fn count(folder: &Path, status: &str) -> usize {
+    let status = format!(",{status},");
+    lines(folder).iter().filter(|line| line.contains(&status)).count()
+}
+
+/// No file but whole notes that the catalogue lists, the catalogue and the page.
+fn is_clean(folder: &Path) {
+    let lines = lines(folder);
+    for name in files(folder).into_keys() {
+        let quoted = if name.contains(',') { format!("\"{name}\"") } else { name.clone() };
+        let listed = lines.iter().any(|line| line.contains(&format!(",rendered,{quoted},")));
+        assert!(listed || ["catalogue.csv", "index.html"].contains(&&name[..]), "{name}");
+    }
+}
+
+/// A shell's limit stands in for a full disk: it needs no root.
+#[test]
+fn a_note_that_cannot_be_written_fails_and_stops_no_other() {
+    let folder = Folder::new("large");
+    let out = folder.path("notes");
+    let rows = format!(
+        "{GOOD}long,modal,A3,9,trigger,0.5,0.4,0.5,0.5\nlast,modal,A3,0.1,trigger,0.5,0.4,0.5,0.5\n"
+    );
+    let script = "trap '' XFSZ; ulimit -f 2000; exec \"$0\" \"$@\"";
+    let output = tool_in(script, &[&"render", &folder.sheet(&rows), &"-o", &out, &"--jobs", &"3"]);
+    let (status, text, error) = said(&output);
+    assert_eq!(status, 3, "{error}");
+    assert!(text.starts_with("7 notes ordered = 6 rendered + 0 refused + 1 failed\n"), "{text}");
+    let reason = "long: its file cannot be written: File too large";
+    assert!(error.starts_with(&format!("failed: line 7, {reason}")), "{error}");
+    assert!(lines(&out)[6].starts_with("long,failed,,,,,,,,,,,its file cannot be written: File"));
+    is_clean(&out);
+}
+
+/// Starts a render of a long sheet, and waits until it has written a note.
+fn started(folder: &Folder, out: &Path) -> Child {
+    let sheet = folder.sheet(&long(400));
+    let mut command = Command::new(env!("CARGO_BIN_EXE_bleidhvan"));
+    command.arg("render").arg(sheet).arg("-o").arg(out).args(["--jobs", "2"]);
+    let child = command.stdout(Stdio::piped()).stderr(Stdio::piped()).spawn();
+    let child = child.expect("the tool starts");
+    let begun = Instant::now();
+    while !out.join("n5.wav").exists() {
+        assert!(begun.elapsed() < Duration::from_secs(60), "no note in a minute");
+        sleep(Duration::from_millis(5));
+    }
+    child
+}
+
+fn signal(child: &Child, name: &str) {
+    let status = Command::new("kill").args([name, &child.id().to_string()]).status();
+    assert!(status.expect("kill runs").success());
+}
+
+#[test]
+fn a_signal_ends_a_run_with_all_that_is_whole() {
+    for (name, status) in [("-INT", 130), ("-TERM", 143)] {
+        let folder = Folder::new("signal");
+        let out = folder.path("notes");
+        let child = started(&folder, &out);
+        signal(&child, name);
+        let output = child.wait_with_output().expect("the tool ends");
+        let (ended, text, error) = said(&output);
+        assert_eq!(ended, status, "{error}");
+        let [rendered, left] = ["rendered", "not rendered"].map(|status| count(&out, status));
+        assert_eq!(rendered + left, 400);
+        assert!(rendered > 5 && left > 0);
+        let sum =
+            format!("400 notes ordered = {rendered} rendered + 0 refused + {left} not rendered\n");
+        assert!(text.starts_with(&sum), "{text}");
+        is_clean(&out);
+    }
+}
+
+/// Address space from what hardly starts the tool to what is enough for all jobs.
+#[test]
+fn many_jobs_in_little_memory_are_fewer_jobs_or_a_sentence() {
+    let folder = Folder::new("memory");
+    let rows: String = (0..300).map(|k| format!("n{k},modal,A3,0.02,trigger,0,0,0,0\n")).collect();
+    let sheet = folder.sheet(&rows);
+    let [mut whole, mut told] = [0; 2];
+    for step in 0..20 {
+        let kilobytes = 9_000 + 17_000 * step;
+        let script = format!("ulimit -v {kilobytes}; exec \"$0\" \"$@\"");
+        let out = folder.path(&format!("{kilobytes}"));
+        let output = tool_in(&script, &[&"render", &sheet, &"-o", &out, &"--jobs", &"256"]);
+        let (status, text, error) = said(&output);
+        match status {
+            0 => {
+                assert!(text.starts_with("300 notes ordered = 300 rendered + 0 refused\n"));
+                whole += 1;
+            }
+            _ => {
+                assert_eq!(status, 2, "{kilobytes}: {error}");
+                assert!(error.starts_with("bleidhvan: ") && error.contains("memory"), "{error}");
+                told += 1;
+            }
+        }
+    }
+    assert_eq!([whole, told], [19, 1]);
+}
+
 #[test]
 fn a_hundred_thousand_rows_are_read_in_little_memory() {
     let folder = Folder::new("long");
@@ -36,10 +123,7 @@ fn a_hundred_thousand_rows_are_read_in_little_memory() {
         (0..100_000).map(|k| format!("note {k},drum,A3,1,trigger,0,0,0,0\n")).collect();
     let sheet = folder.sheet(&format!("{rows}{GOOD}"));
     let script = "ulimit -v 200000; exec \"$0\" \"$@\"";
-    let mut command = Command::new("sh");
-    command.arg("-c").arg(script).arg(env!("CARGO_BIN_EXE_bleidhvan"));
-    let output = command.arg("render").arg(sheet).arg("-o").arg(&out).output().expect("sh runs");
-    let (status, text, error) = said(&output);
+    let (status, text, error) = said(&tool_in(script, &[&"render", &sheet, &"-o", &out]));
     assert_eq!(status, 1, "{error}");
     assert!(text.starts_with("100005 notes ordered = 5 rendered + 100000 refused\n"), "{text}");
     assert_eq!(lines(&out).len(), 100_006);

@@ -1,7 +1,7 @@
 //! What a good sheet gives.
 
 use crate::run::{Folder, GOOD, files, lines, said, tool};
-use crate::wave::{bank_samples, python, seed};
+use crate::wave::{bank_samples, python, seed, sha256};
 use bleidhvan::{Kind, Knobs};
 use std::fs;
 
@@ -22,9 +22,11 @@ fn a_good_sheet_is_rendered_whole() {
     assert_eq!(lines.len(), 6);
     assert!(lines[1].starts_with("pluck,rendered,pluck.wav,2400,0."), "{}", lines[1]);
     assert!(lines[4].starts_with("\"bowl, rubbed\",rendered,\"bowl, rubbed.wav\",960,"));
-    assert_eq!(lines[5], "nothing,rendered,nothing.wav,0,0,0,0,0,,,,,,6");
+    let nothing = "nothing,rendered,nothing.wav,0,0,0,0,0,,,,,,6,modal,C4,0,trigger,0.5,0.2,0.6,0.7,0,48000,float32,1,0.1.0,";
+    assert!(lines[5].starts_with(nothing), "{}", lines[5]);
+    assert!(lines[5].ends_with(&sha256(&out.join("nothing.wav"))), "{}", lines[5]);
     let page = fs::read_to_string(out.join("index.html")).expect("the page is read");
-    assert!(page.contains("5 notes ordered: 5 rendered, 0 refused."));
+    assert!(page.contains("5 notes ordered = 5 rendered + 0 refused."));
     assert!(page.contains("src=\"bowl%2C%20rubbed.wav\"") && !page.contains("<script"));
     let names: Vec<String> = files(&out).into_keys().collect();
     let wavs = ["bar", "bow", "bowl, rubbed", "nothing", "pluck"].map(|name| format!("{name}.wav"));

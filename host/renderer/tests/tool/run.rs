@@ -20,6 +20,7 @@ pub struct Folder(pub PathBuf);
 impl Folder {
     pub fn new(name: &str) -> Self {
         let path = std::env::temp_dir().join(format!("bleidhvan-{name}-{}", std::process::id()));
+        drop(fs::remove_dir_all(&path));
         fs::create_dir_all(&path).expect("a folder is made");
         Folder(path)
     }
@@ -46,6 +47,14 @@ pub fn tool(words: &[&dyn AsRef<std::ffi::OsStr>]) -> Output {
     let mut command = Command::new(env!("CARGO_BIN_EXE_bleidhvan"));
     words.iter().for_each(|word| _ = command.arg(word));
     command.output().expect("the tool runs")
+}
+
+/// Runs the tool from a shell's script, in which it is "$0" and its words "$@".
+pub fn tool_in(script: &str, words: &[&dyn AsRef<std::ffi::OsStr>]) -> Output {
+    let mut command = Command::new("sh");
+    command.arg("-c").arg(script).arg(env!("CARGO_BIN_EXE_bleidhvan"));
+    words.iter().for_each(|word| _ = command.arg(word));
+    command.output().expect("sh runs")
 }
 
 /// The exit status, standard output and standard error.

@@ -151,7 +151,7 @@ fn twenty_refused_notes_are_told_and_the_rest_counted() {
     let sheet = folder.sheet(&rows);
     let (status, _, error) = said(&tool(&[&"render", &sheet, &"-o", &out]));
     assert_eq!((status, error.lines().count()), (1, 21));
-    assert!(error.ends_with("\nrefused: 25 more, which catalogue.csv names\n"), "{error}");
+    assert!(error.ends_with("\n25 more, which catalogue.csv names\n"), "{error}");
     assert!(!error.contains('\u{1b}'));
     let (status, text, error) = said(&tool(&[&"render", &sheet, &"-o", &out, &"--quiet"]));
     assert_eq!((status, &text[..], &error[..]), (1, "", ""));

@@ -68,3 +68,11 @@ pub fn bank_samples(seed: u32, kind: Kind, first: Knobs, rate: f32, n: usize) ->
     }
     [outs, auxs]
 }
+
+/// The SHA-256 of a file as coreutils have it.
+pub fn sha256(path: &Path) -> String {
+    let output = Command::new("sha256sum").arg(path).output().expect("sha256sum runs");
+    let (status, text, error) = said(&output);
+    assert_eq!(status, 0, "{error}");
+    text.split_whitespace().next().expect("a sum").trim_start_matches('\\').into()
+}

@@ -1,0 +1,42 @@
+//! SHA-256, of files and of what made them.
+
+use sha2::{Digest, Sha256};
+use std::fmt;
+
+/// The sum of bytes.
+#[derive(Clone, Copy, PartialEq, Eq)]
+pub struct Checksum([u8; 32]);
+
+/// The sum of bytes that come bit by bit.
+#[derive(Clone, Default)]
+pub struct Summing(Sha256);
+
+impl Summing {
+    pub fn add(&mut self, bytes: &[u8]) {
+        self.0.update(bytes);
+    }
+
+    pub fn end(self) -> Checksum {
+        Checksum(self.0.finalize().into())
+    }
+}
+
+impl fmt::Display for Checksum {
+    fn fmt(&self, f: &mut fmt::Formatter<'_>) -> fmt::Result {
+        self.0.iter().try_for_each(|byte| write!(f, "{byte:02x}"))
+    }
+}
+
+#[cfg(test)]
+mod tests {
+    use super::Summing;
+
+    #[test]
+    fn the_sum_is_sha_256() {
+        let mut sum = Summing::default();
+        sum.add(b"a");
+        sum.add(b"bc");
+        let abc = "ba7816bf8f01cfea414140de5dae2223b00361a396177a9cb410ff61f20015ad";
+        assert_eq!(sum.end().to_string(), abc);
+    }
+}

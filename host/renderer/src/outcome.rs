@@ -1,0 +1,103 @@
+//! What became of an ordered note.
+
+use crate::checksum::Checksum;
+use crate::note::{Fault, clipped};
+use crate::order::Order;
+use crate::part::Whole;
+use crate::wave::Wave;
+use std::io;
+
+pub enum Outcome {
+    Rendered(Box<Rendered>),
+    /// The row asks for no note.
+    Refused(Fault),
+    /// The machine could not do it.
+    Failed(String),
+    /// The run was stopped before.
+    NotRendered,
+}
+
+/// What was rendered.
+pub struct Rendered {
+    pub frames: u64,
+    pub peak: f32,
+    pub burst: u64,
+    pub dust: u64,
+    pub dispersion: u64,
+    pub wave: Wave,
+    pub checksum: Checksum,
+    /// The file, until it has its name.
+    pub file: Option<Whole>,
+}
+
+impl Outcome {
+    /// A note whose file the machine did not take.
+    pub fn unwritten(error: &io::Error) -> Self {
+        Outcome::Failed(format!("its file cannot be written: {}", clipped(&error.to_string())))
+    }
+
+    /// What is known of an order before it is played.
+    pub fn unplayed(order: &Order) -> Self {
+        order
+            .note
+            .as_ref()
+            .map_or_else(|fault| Outcome::Refused(fault.clone()), |_| Outcome::NotRendered)
+    }
+}
+
+/// How many notes there were of each outcome, and the first that were refused or failed in words.
+#[derive(Debug, Default, Clone)]
+pub struct Sum {
+    pub ordered: usize,
+    pub rendered: usize,
+    pub refused: usize,
+    pub failed: usize,
+    pub not_rendered: usize,
+    pub told: Vec<String>,
+}
+
+/// The notes that are told on the terminal.
+const TOLD: usize = 20;
+
+impl Sum {
+    pub fn add(&mut self, order: &Order, outcome: &Outcome) {
+        self.ordered += 1;
+        match outcome {
+            Outcome::Rendered(_) => self.rendered += 1,
+            Outcome::Refused(fault) => {
+                self.refused += 1;
+                self.tell("refused", order, &fault.reason);
+            }
+            Outcome::Failed(reason) => {
+                self.failed += 1;
+                self.tell("failed", order, reason);
+            }
+            Outcome::NotRendered => self.not_rendered += 1,
+        }
+    }
+
+    fn tell(&mut self, status: &str, order: &Order, reason: &str) {
+        if self.told.len() < TOLD {
+            let (line, name) = (order.row.line, order.name());
+            self.told.push(format!("{status}: line {line}, {name}: {reason}"));
+        }
+    }
+
+    /// The outcomes as they make up the notes that were ordered.
+    pub fn text(&self) -> String {
+        let Sum { ordered, rendered, refused, failed, not_rendered, .. } = self;
+        let mut text = format!("{ordered} notes ordered = {rendered} rendered + {refused} refused");
+        for (number, word) in [(failed, "failed"), (not_rendered, "not rendered")] {
+            if *number > 0 {
+                text += &format!(" + {number} {word}");
+            }
+        }
+        text
+    }
+
+    /// Whether every one of so many ordered notes has its outcome.
+    pub fn is_whole(&self, ordered: usize) -> bool {
+        let outcomes = self.rendered + self.refused + self.failed + self.not_rendered;
+        [self.ordered, outcomes] == [ordered; 2]
+    }
+}

@@ -1,0 +1,81 @@
+//! Files that take their names only once they are whole.
+
+use std::fs::{self, File, OpenOptions};
+use std::io::{self, BufWriter, Seek, SeekFrom, Write};
+use std::path::{Path, PathBuf};
+
+/// What the names of parts begin with, which is the beginning of no note's name.
+pub const PREFIX: &str = ".bleidhvan-";
+
+/// What the names of parts end in.
+pub const SUFFIX: &str = ".part";
+
+/// The part of a file.
+pub fn part_of(path: &Path) -> io::Result<PathBuf> {
+    let name = path.file_name().ok_or(io::ErrorKind::InvalidInput)?.display();
+    Ok(path.with_file_name(format!("{PREFIX}{name}{SUFFIX}")))
+}
+
+/// A file in the making, which is removed where it is not named.
+pub struct Part {
+    whole: Whole,
+    file: BufWriter<File>,
+}
+
+/// A file that is written and has not its name yet.
+pub struct Whole {
+    path: PathBuf,
+    part: PathBuf,
+    is_named: bool,
+}
+
+impl Part {
+    pub fn create(path: &Path) -> io::Result<Self> {
+        let part = part_of(path)?;
+        // What a run that was cut off left there; a link is not followed.
+        drop(fs::remove_file(&part));
+        let file = OpenOptions::new().write(true).create_new(true).open(&part)?;
+        let whole = Whole { path: path.into(), part, is_named: false };
+        Ok(Part { whole, file: BufWriter::new(file) })
+    }
+
+    /// Writes bytes over those at a place, and goes on at the end.
+    pub fn overwrite(&mut self, place: u64, bytes: &[u8]) -> io::Result<()> {
+        self.file.seek(SeekFrom::Start(place))?;
+        self.file.write_all(bytes)?;
+        self.file.seek(SeekFrom::End(0)).map(|_| ())
+    }
+
+    /// Closes the file.
+    pub fn close(mut self) -> io::Result<Whole> {
+        self.file.flush()?;
+        Ok(self.whole)
+    }
+}
+
+impl Write for Part {
+    fn write(&mut self, bytes: &[u8]) -> io::Result<usize> {
+        self.file.write(bytes)
+    }
+
+    fn flush(&mut self) -> io::Result<()> {
+        self.file.flush()
+    }
+}
+
+impl Whole {
+    /// Gives the file its name.
+    pub fn name(mut self) -> io::Result<()> {
+        fs::rename(&self.part, &self.path)?;
+        self.is_named = true;
+        Ok(())
+    }
+}
+
+impl Drop for Whole {
+    fn drop(&mut self) {
+        if !self.is_named {
+            drop(fs::remove_file(&self.part));
+        }
+    }
+}
