@@ -80,12 +80,13 @@ fn frees(before: StringAt, after: StringAt, counts: Counts) -> bool {
 mod tests {
     use super::{LONG, SHORT};
     use crate::chance::Chance;
+    use crate::known::Known;
     use crate::order::Orders;
     use crate::render::Settings;
     use crate::run::Run;
     use crate::sheet::{COLUMNS, Sheet};
     use crate::stop::Stop;
-    use crate::tests::Folder;
+    use crate::tests::Scratch;
     use crate::wav::Format;
     use std::collections::BTreeMap;
     use std::fs;
@@ -143,14 +144,23 @@ mod tests {
 
     /// The files of a sheet of these rows, which are all rendered.
     fn files(rows: &str, settings: &Settings) -> BTreeMap<String, Vec<u8>> {
-        let folder = Folder::new("blocks");
+        let scratch = Scratch::new("blocks");
+        let (folder, known) = (scratch.folder(), Known::default());
         let text = format!("{}\n{rows}", COLUMNS.join(","));
         let sheet = Sheet::new(text.as_bytes()).expect("the sheet has its header");
         let orders = Orders::new(sheet, settings);
-        let run = Run { folder: &folder.0, settings, jobs: 2, stop: &Stop::default() };
-        let sum = run.run(orders, |order| run.play(order)).expect("the folder is written");
+        let stop = Stop::default();
+        let run = Run {
+            folder: &folder,
+            known: &known,
+            settings,
+            jobs: 2,
+            stop: &stop,
+            is_forced: false,
+        };
+        let (sum, _) = run.run(orders, |order| run.play(order)).expect("the folder is written");
         assert_eq!(sum.rendered, rows.lines().count());
-        let entries = fs::read_dir(&folder.0).expect("the folder is read");
+        let entries = fs::read_dir(&scratch.0).expect("the folder is read");
         let files = entries.map(|entry| {
             let path = entry.expect("an entry").path();
             let name = path.file_name().expect("a name").to_string_lossy().into_owned();

@@ -4,7 +4,7 @@ use sha2::{Digest, Sha256};
 use std::fmt;
 
 /// The sum of bytes.
-#[derive(Clone, Copy, PartialEq, Eq)]
+#[derive(Debug, Clone, Copy, PartialEq, Eq)]
 pub struct Checksum([u8; 32]);
 
 /// The sum of bytes that come bit by bit.
@@ -21,6 +21,18 @@ impl Summing {
     }
 }
 
+impl Checksum {
+    /// Reads a sum as it is written.
+    pub fn read(text: &str) -> Option<Self> {
+        let (pairs, rest) = text.as_bytes().as_chunks::<2>();
+        let digit = |c: u8| char::from(c).to_digit(16);
+        let bytes = pairs.iter().map(|[high, low]| Some((digit(*high)? << 4 | digit(*low)?) as u8));
+        let bytes: Option<Vec<u8>> = bytes.collect();
+        let bytes = bytes.filter(|_| rest.is_empty())?;
+        bytes.try_into().ok().map(Checksum)
+    }
+}
+
 impl fmt::Display for Checksum {
     fn fmt(&self, f: &mut fmt::Formatter<'_>) -> fmt::Result {
         self.0.iter().try_for_each(|byte| write!(f, "{byte:02x}"))
@@ -29,7 +41,7 @@ impl fmt::Display for Checksum {
 
 #[cfg(test)]
 mod tests {
-    use super::Summing;
+    use super::{Checksum, Summing};
 
     #[test]
     fn the_sum_is_sha_256() {
@@ -37,6 +49,11 @@ mod tests {
         sum.add(b"a");
         sum.add(b"bc");
         let abc = "ba7816bf8f01cfea414140de5dae2223b00361a396177a9cb410ff61f20015ad";
-        assert_eq!(sum.end().to_string(), abc);
+        let sum = sum.end();
+        assert_eq!(sum.to_string(), abc);
+        assert!(Checksum::read(abc) == Some(sum));
+        for wrong in ["", "ba", &abc[1..], &abc.replace('b', "g"), &format!("{abc}0")] {
+            assert!(Checksum::read(wrong).is_none(), "{wrong}");
+        }
     }
 }

@@ -30,6 +30,7 @@ Options:
   --jobs N    how many notes are rendered at once (1)
   --first-line N
               where SHEET is a part of a whole sheet, the whole one's line of its line 2 (2)
+  --force     renders every note anew, and writes over files that no run wrote
   --quiet     no progress and no sum
   --help      this text
   --version   the version
@@ -40,6 +41,8 @@ Example:
 One line is one note: a cell holds no line break, and a line whose quote does not end is refused by itself.
 Refused notes are listed with their lines, the first 20 here and all in catalogue.csv.
 
+A note whose row, settings and file are as an earlier run left them is kept. A file that an earlier run
+rendered, and this sheet does not, is removed, if it is as it was rendered; no other file is touched.
 A note that the machine could not do is failed, not refused. Ctrl-C and SIGTERM end a run with all that
 is whole, and a catalogue that says what was not rendered; a second one ends it at once.
 
@@ -55,6 +58,7 @@ pub struct Asked {
     pub jobs: usize,
     /// The line of the whole sheet that line 2 of this part of it is.
     pub first_line: usize,
+    pub is_forced: bool,
     pub is_quiet: bool,
 }
 
@@ -77,6 +81,7 @@ pub fn read(words: Vec<String>) -> Result<Asked, String> {
         settings,
         jobs: 1,
         first_line: 2,
+        is_forced: false,
         is_quiet: false,
     };
     while let Some(word) = words.next() {
@@ -92,6 +97,7 @@ pub fn read(words: Vec<String>) -> Result<Asked, String> {
             }
             "--bits" => asked.settings.format = format_of(&value("--bits 16")?)?,
             "--aux" => asked.settings.aux = true,
+            "--force" => asked.is_forced = true,
             "--quiet" => asked.is_quiet = true,
             _ if word.starts_with('-') && word != "-" => {
                 return Err(format!("{word} is no option: 'bleidhvan --help' lists them"));
@@ -101,6 +107,7 @@ pub fn read(words: Vec<String>) -> Result<Asked, String> {
         }
     }
     asked.sheet = sheet.ok_or("no sheet is named: write 'bleidhvan render SHEET -o DIR'")?;
+    let folder = folder.filter(|folder| !folder.is_empty());
     asked.folder = folder.ok_or("no folder is named: write '-o DIR' behind the sheet")?.into();
     Ok(asked)
 }

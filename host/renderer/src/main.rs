@@ -7,7 +7,11 @@ mod catalogue;
 #[cfg(test)]
 mod chance;
 mod checksum;
+mod claim;
 mod command;
+mod folder;
+mod journal;
+mod known;
 mod lines;
 mod name;
 mod note;
@@ -31,6 +35,7 @@ mod wave;
 mod work;
 
 use command::{Asked, HELP};
+use folder::{Folder, Identity};
 use order::Orders;
 use progress::Progress;
 use report::{complain, say};
@@ -39,6 +44,7 @@ use sheet::Sheet;
 use std::fs::{self, File};
 use std::io::{self, ErrorKind, Read};
 use std::panic;
+use std::path::Path;
 use std::process::ExitCode;
 use std::thread;
 use stop::Stop;
@@ -75,7 +81,7 @@ fn wrong(message: &str) -> ExitCode {
 
 /// Renders the sheet, and gives the exit status.
 fn render_sheet(asked: &Asked) -> Result<u8, String> {
-    let text = read_sheet(&asked.sheet)?;
+    let (text, read) = read_sheet(&asked.sheet)?;
     let sheet = Sheet::new(&text).map_err(|error| format!("{}: {error}", asked.sheet))?;
     let ordered = lines::counted(&text);
     if ordered == 0 {
@@ -83,27 +89,28 @@ fn render_sheet(asked: &Asked) -> Result<u8, String> {
         complain(&format!("{sheet} orders no note: it has a header, and no line behind it"));
         return Ok(REFUSED);
     }
-    let folder = &asked.folder;
-    let unwritable = |error: io::Error| match error.kind() {
-        ErrorKind::OutOfMemory => "there is no memory for one job: give it some 20 MB".into(),
-        _ => format!("{} cannot be written: {error}", folder.display()),
-    };
-    fs::create_dir_all(folder).map_err(unwritable)?;
+    let folder = Folder::hold(&asked.folder, (asked.sheet.clone().into(), read))?;
     let stop = Stop::listen().map_err(|error| format!("signals cannot be listened to: {error}"))?;
     hush_workers();
-    let settings = &asked.settings;
+    let unwritable = |error: io::Error| match error.kind() {
+        ErrorKind::OutOfMemory => "there is no memory for one job: give it some 20 MB".into(),
+        _ => format!("{} cannot be written: {error}", asked.folder.display()),
+    };
+    let known = folder.known().map_err(unwritable)?;
+    let (settings, is_forced) = (&asked.settings, asked.is_forced);
     // A job more than there are notes would have nothing to do.
-    let run = Run { folder, settings, jobs: asked.jobs.min(ordered), stop: &stop };
+    let jobs = asked.jobs.min(ordered);
+    let run = Run { folder: &folder, known: &known, settings, jobs, stop: &stop, is_forced };
     let progress = Progress::new(asked.is_quiet, ordered);
     let orders = Orders::new(sheet.part_from(asked.first_line), settings);
-    let sum = run.run(orders, |order| {
+    let done = run.run(orders, |order| {
         let outcome = run.play(order);
         progress.note();
         outcome
     });
     progress.end();
-    let sum = sum.map_err(unwritable)?;
-    report::sum(asked, ordered, &sum)?;
+    let (sum, stale) = done.map_err(unwritable)?;
+    report::told(asked, ordered, &sum, &stale)?;
     Ok(match (sum.not_rendered, sum.failed, sum.refused) {
         (1.., _, _) => stop.status(),
         (_, 1.., _) => FAILED,
@@ -125,22 +132,24 @@ fn hush_workers() {
 /// The most bytes of a sheet.
 const MOST_BYTES: u64 = 1 << 30;
 
-/// The sheet's text.
-fn read_sheet(sheet: &str) -> Result<Vec<u8>, String> {
+/// The sheet's text, and which file it is.
+fn read_sheet(sheet: &str) -> Result<(Vec<u8>, Identity), String> {
     let unreadable = |error| format!("{sheet} cannot be read: {error}");
+    let path = if sheet == "-" { "/dev/stdin" } else { sheet };
     let input: Box<dyn Read> = if sheet == "-" {
         Box::new(io::stdin().lock())
     } else {
-        let file = File::open(sheet).map_err(unreadable)?;
-        if file.metadata().map_err(unreadable)?.is_dir() {
-            return Err(format!("{sheet} is a folder: name a CSV file"));
-        }
-        Box::new(file)
+        Box::new(File::open(path).map_err(unreadable)?)
     };
+    if fs::metadata(path).is_ok_and(|data| data.is_dir()) {
+        return Err(format!("{sheet} is a folder: name a CSV file"));
+    }
+    // A pipe that is gone is no file of the folder.
+    let read = folder::identity(Path::new(path)).unwrap_or_default();
     let mut text = Vec::new();
     input.take(MOST_BYTES + 1).read_to_end(&mut text).map_err(unreadable)?;
     if text.len() as u64 > MOST_BYTES {
         return Err(format!("{sheet} is longer than {MOST_BYTES} bytes: split it"));
     }
-    Ok(text)
+    Ok((text, read))
 }

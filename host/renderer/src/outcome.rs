@@ -9,6 +9,8 @@ use std::io;
 
 pub enum Outcome {
     Rendered(Box<Rendered>),
+    /// An earlier run rendered it, and nothing has changed since.
+    Kept(Box<Rendered>),
     /// The row asks for no note.
     Refused(Fault),
     /// The machine could not do it.
@@ -24,9 +26,10 @@ pub struct Rendered {
     pub burst: u64,
     pub dust: u64,
     pub dispersion: u64,
-    pub wave: Wave,
+    /// None where a run was stopped before it could look into a file of an earlier one.
+    pub wave: Option<Wave>,
     pub checksum: Checksum,
-    /// The file, until it has its name.
+    /// The file, until it has its name; none where an earlier run rendered it.
     pub file: Option<Whole>,
 }
 
@@ -50,6 +53,7 @@ impl Outcome {
 pub struct Sum {
     pub ordered: usize,
     pub rendered: usize,
+    pub kept: usize,
     pub refused: usize,
     pub failed: usize,
     pub not_rendered: usize,
@@ -57,13 +61,14 @@ pub struct Sum {
 }
 
 /// The notes that are told on the terminal.
-const TOLD: usize = 20;
+pub const TOLD: usize = 20;
 
 impl Sum {
     pub fn add(&mut self, order: &Order, outcome: &Outcome) {
         self.ordered += 1;
         match outcome {
             Outcome::Rendered(_) => self.rendered += 1,
+            Outcome::Kept(_) => self.kept += 1,
             Outcome::Refused(fault) => {
                 self.refused += 1;
                 self.tell("refused", order, &fault.reason);
@@ -85,19 +90,30 @@ impl Sum {
 
     /// The outcomes as they make up the notes that were ordered.
     pub fn text(&self) -> String {
-        let Sum { ordered, rendered, refused, failed, not_rendered, .. } = self;
-        let mut text = format!("{ordered} notes ordered = {rendered} rendered + {refused} refused");
-        for (number, word) in [(failed, "failed"), (not_rendered, "not rendered")] {
-            if *number > 0 {
+        let Sum { ordered, rendered, kept, refused, failed, not_rendered, .. } = *self;
+        let mut text = format!("{ordered} notes ordered = {rendered} rendered");
+        let more = [
+            (kept, "kept"),
+            (refused, "refused"),
+            (failed, "failed"),
+            (not_rendered, "not rendered"),
+        ];
+        for (number, word) in more {
+            if number > 0 || word == "refused" {
                 text += &format!(" + {number} {word}");
             }
         }
         text
     }
 
+    /// The outcomes whichever run rendered the notes.
+    pub fn of_all_runs(&self) -> Self {
+        Sum { rendered: self.rendered + self.kept, kept: 0, ..self.clone() }
+    }
+
     /// Whether every one of so many ordered notes has its outcome.
     pub fn is_whole(&self, ordered: usize) -> bool {
-        let outcomes = self.rendered + self.refused + self.failed + self.not_rendered;
+        let outcomes = self.rendered + self.kept + self.refused + self.failed + self.not_rendered;
         [self.ordered, outcomes] == [ordered; 2]
     }
 }

@@ -8,6 +8,21 @@ use crate::sheet::COLUMNS as NAMES;
 use crate::wave::COLUMNS;
 use std::io::{self, Write};
 
+/// The first page's file.
+pub const FILE: &str = "index.html";
+
+/// What every page of every version begins with.
+const MARK: &str = "<!DOCTYPE html>
+<html lang=\"en\">
+<meta charset=\"utf-8\">
+<meta name=\"viewport\" content=\"width=device-width\">
+<title>Catalogue</title>";
+
+/// Whether a file that begins so is a page of this tool.
+pub fn is_ours(beginning: &[u8]) -> bool {
+    beginning.starts_with(MARK.as_bytes())
+}
+
 const HEAD: &str = "<!DOCTYPE html>
 <html lang=\"en\">
 <meta charset=\"utf-8\">
@@ -32,7 +47,7 @@ const SUM: usize = 160;
 
 /// The line that sums up the notes, padded so that it can be written over.
 fn summed(sum: &Sum) -> String {
-    let line = format!("<p>{}.</p>", sum.text());
+    let line = format!("<p>{}.</p>", sum.of_all_runs().text());
     format!("{line:<SUM$}\n")
 }
 
@@ -62,7 +77,7 @@ pub fn row(order: &Order, outcome: &Outcome) -> String {
         )
     };
     match outcome {
-        Outcome::Rendered(rendered) => {
+        Outcome::Rendered(rendered) | Outcome::Kept(rendered) => {
             let file = escaped(&url(&file_of(order.name())));
             format!(
                 "<tr><th>{name}<td><audio controls preload=\"none\" src=\"{file}\"></audio><td>{}<td class=\"knobs\">{knobs}\n",
@@ -83,13 +98,14 @@ fn knob((name, value): (&&str, &String)) -> String {
 
 /// The waveform as a picture, from its lowest to its highest samples, as high as its peak.
 fn waveform(rendered: &Rendered, name: &str) -> String {
+    let Some(wave) = &rendered.wave else { return String::new() };
     let scale = if rendered.peak > 0.0 { 23.0 / rendered.peak } else { 0.0 };
     let place = |sample: f32| {
         let height = 24.0 - sample * scale;
         if height.is_finite() { height } else { 24.0 }
     };
     let mut path = String::new();
-    for (x, [low, high]) in rendered.wave.columns.iter().enumerate() {
+    for (x, [low, high]) in wave.columns.iter().enumerate() {
         path += &format!("M{x}.5 {:.1}V{:.1}", place(*high) - 0.3, place(*low) + 0.3);
     }
     format!(
@@ -127,7 +143,12 @@ fn url(name: &str) -> String {
 
 #[cfg(test)]
 mod tests {
-    use super::{escaped, url};
+    use super::{HEAD, escaped, is_ours, url};
+
+    #[test]
+    fn a_page_is_known_as_one() {
+        assert!(is_ours(HEAD.as_bytes()) && !is_ours(b"<!DOCTYPE html>\n<title>Mine</title>"));
+    }
 
     #[test]
     fn names_are_escaped() {

@@ -26,7 +26,7 @@ pub struct Part {
 pub struct Whole {
     path: PathBuf,
     part: PathBuf,
-    is_named: bool,
+    is_left: bool,
 }
 
 impl Part {
@@ -35,7 +35,7 @@ impl Part {
         // What a run that was cut off left there; a link is not followed.
         drop(fs::remove_file(&part));
         let file = OpenOptions::new().write(true).create_new(true).open(&part)?;
-        let whole = Whole { path: path.into(), part, is_named: false };
+        let whole = Whole { path: path.into(), part, is_left: false };
         Ok(Part { whole, file: BufWriter::new(file) })
     }
 
@@ -44,6 +44,23 @@ impl Part {
         self.file.seek(SeekFrom::Start(place))?;
         self.file.write_all(bytes)?;
         self.file.seek(SeekFrom::End(0)).map(|_| ())
+    }
+
+    /// Goes on at a place.
+    pub fn go_to(&mut self, place: u64) -> io::Result<()> {
+        self.file.seek(SeekFrom::Start(place)).map(|_| ())
+    }
+
+    /// Closes the file, which ends at a place.
+    pub fn close_at(mut self, end: u64) -> io::Result<Whole> {
+        self.file.flush()?;
+        self.file.get_ref().set_len(end)?;
+        Ok(self.whole)
+    }
+
+    /// Leaves the part to a later run where it is not named.
+    pub fn leave(&mut self) {
+        self.whole.is_left = true;
     }
 
     /// Closes the file.
@@ -67,14 +84,14 @@ impl Whole {
     /// Gives the file its name.
     pub fn name(mut self) -> io::Result<()> {
         fs::rename(&self.part, &self.path)?;
-        self.is_named = true;
+        self.is_left = true;
         Ok(())
     }
 }
 
 impl Drop for Whole {
     fn drop(&mut self) {
-        if !self.is_named {
+        if !self.is_left {
             drop(fs::remove_file(&self.part));
         }
     }

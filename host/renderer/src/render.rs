@@ -5,7 +5,7 @@ use crate::note::{Fault, Note};
 use crate::outcome::{Outcome, Rendered};
 use crate::sheet::Row;
 use crate::stop::Stop;
-use crate::wav::{Format, Wav};
+use crate::wav::{Format, Wav, written};
 use crate::wave::Wave;
 use bleidhvan::{Bank, Counts, Refusal};
 use std::io;
@@ -78,6 +78,7 @@ fn blocks(
     let frames = settings.frames(note);
     let mut blocks = Blocks::new(bank, note, settings.longest);
     let mut wave = Wave::new(frames);
+    let mut peak = 0_f32;
     let mut sum = [0_u64; 3];
     let mut done = 0;
     let mut wav = None;
@@ -96,7 +97,15 @@ fn blocks(
             None => wav.insert(Wav::create(path, settings, frames)?),
         };
         file.write(heard)?;
-        wave.add(out);
+        if settings.format == Format::Float32 {
+            wave.add(out);
+        } else {
+            // What is drawn is what the file holds, and the peak is the voice's own.
+            wave.add(
+                &out.iter().map(|sample| written(*sample, settings.format)).collect::<Vec<_>>(),
+            );
+            peak = out.iter().fold(peak, |peak, sample| sample.abs().max(peak));
+        }
         done += out.len() as u64;
         let Counts { burst, dust, dispersion } = counts;
         for (sum, words) in sum.iter_mut().zip([burst, dust, dispersion]) {
@@ -104,7 +113,8 @@ fn blocks(
         }
     }
     let (file, checksum) = wav.map(Wav::close).ok_or(Failure::Stopped)??;
-    let ([burst, dust, dispersion], peak) = (sum, wave.peak());
+    let ([burst, dust, dispersion], peak) = (sum, wave.peak().max(peak));
+    let wave = Some(wave);
     Ok(Rendered { frames, peak, burst, dust, dispersion, wave, checksum, file: Some(file) })
 }
 

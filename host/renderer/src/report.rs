@@ -1,7 +1,8 @@
 //! What is said on the terminal.
 
 use crate::command::Asked;
-use crate::outcome::Sum;
+use crate::known::Stale;
+use crate::outcome::{Sum, TOLD};
 use std::io::{self, Write};
 
 /// Writes a line to standard output; one that nobody reads is no error.
@@ -14,8 +15,8 @@ pub fn complain(message: &str) {
     drop(writeln!(io::stderr(), "bleidhvan: {message}"));
 }
 
-/// Says what became of the notes, which must be as many as the lines that order them.
-pub fn sum(asked: &Asked, lines: usize, sum: &Sum) -> Result<(), String> {
+/// Says what became of the notes, which must be as many as the lines that order them, and of the files of earlier runs.
+pub fn told(asked: &Asked, lines: usize, sum: &Sum, stale: &Stale) -> Result<(), String> {
     if !sum.is_whole(lines) {
         let text = sum.text();
         return Err(format!(
@@ -23,20 +24,33 @@ pub fn sum(asked: &Asked, lines: usize, sum: &Sum) -> Result<(), String> {
         ));
     }
     if !asked.is_quiet {
-        tell(&sum.told, sum.refused + sum.failed - sum.told.len());
+        let more = sum.refused + sum.failed - sum.told.len();
+        list(&sum.told, more, "which catalogue.csv names");
+        let left = |name: &String| {
+            format!("left: {name}: this sheet does not render it, and it is not as it was rendered")
+        };
+        let lefts: Vec<String> = stale.left.iter().take(TOLD).map(left).collect();
+        list(&lefts, stale.left.len() - lefts.len(), "of no note of this sheet");
         say(&sum.text());
+        if stale.removed > 0 {
+            let files = if stale.removed == 1 { "file" } else { "files" };
+            let removed = stale.removed;
+            say(&format!(
+                "{removed} {files} of earlier runs removed, which this sheet does not render"
+            ));
+        }
         say(&format!("{} has the notes, catalogue.csv and index.html", asked.folder.display()));
     }
     Ok(())
 }
 
-/// Lists notes without a file on standard error, with nothing in them that moves a terminal.
-fn tell(told: &[String], more: usize) {
-    for line in told {
+/// Lists lines on standard error, with nothing in them that moves a terminal.
+fn list(lines: &[String], more: usize, what: &str) {
+    for line in lines {
         let line = line.replace(char::is_control, "\u{fffd}");
         drop(writeln!(io::stderr(), "{line}"));
     }
     if more > 0 {
-        drop(writeln!(io::stderr(), "{more} more, which catalogue.csv names"));
+        drop(writeln!(io::stderr(), "{more} more, {what}"));
     }
 }

@@ -1,6 +1,11 @@
 //! A sheet rendered to a folder: every ordered note has its line, and the lines are in the sheet's order whatever the jobs.
 
 use crate::catalogue::{self, file_of};
+use crate::claim::in_the_way;
+use crate::folder::Folder;
+use crate::journal::Journal;
+use crate::known::{Known, Stale};
+use crate::name::key;
 use crate::order::{Order, Orders};
 use crate::outcome::{Outcome, Sum};
 use crate::page;
@@ -8,79 +13,132 @@ use crate::part::Part;
 use crate::render::{Settings, render};
 use crate::stop::Stop;
 use crate::work::in_order;
+use std::collections::HashMap;
 use std::io::{self, Write};
-use std::path::Path;
 
 /// Where and how a sheet is rendered.
 pub struct Run<'a> {
-    pub folder: &'a Path,
+    pub folder: &'a Folder,
+    pub known: &'a Known,
     pub settings: &'a Settings,
     pub jobs: usize,
     pub stop: &'a Stop,
+    /// Whether nothing of earlier runs is kept.
+    pub is_forced: bool,
+}
+
+/// What a run has written so far.
+struct Written {
+    journal: Journal,
+    page: Part,
+    sum: Sum,
+    /// The files of this run, by what they are to file systems.
+    files: HashMap<String, String>,
 }
 
 impl Run<'_> {
     /// What becomes of an order.
     pub fn play(&self, order: &Order) -> Outcome {
-        let path = self.folder.join(file_of(order.name()));
-        match &order.note {
-            Ok(note) => render(&order.row, note, self.settings, &path, self.stop),
-            Err(fault) => Outcome::Refused(fault.clone()),
+        let Ok(note) = &order.note else { return Outcome::unplayed(order) };
+        let file = file_of(order.name());
+        if !self.is_forced {
+            let made = catalogue::made(order, self.settings);
+            let kept = self.known.kept(self.folder, &file, made, self.settings, self.stop);
+            if let Some(kept) = kept {
+                return Outcome::Kept(Box::new(kept));
+            }
         }
+        render(&order.row, note, self.settings, &self.folder.file(&file), self.stop)
     }
 
     /// Plays orders into the folder, and writes the catalogue and the page.
-    pub fn run(&self, orders: Orders, play: impl Fn(&Order) -> Outcome + Sync) -> io::Result<Sum> {
-        let mut lines = Part::create(&self.folder.join("catalogue.csv"))?;
-        let mut page = Part::create(&self.folder.join("index.html"))?;
-        writeln!(lines, "{}", catalogue::HEADER)?;
+    pub fn run(
+        &self,
+        orders: Orders,
+        play: impl Fn(&Order) -> Outcome + Sync,
+    ) -> io::Result<(Sum, Stale)> {
+        let journal = Journal::begin(&self.folder.file(catalogue::FILE))?;
+        let mut page = Part::create(&self.folder.file(page::FILE))?;
         page::begin(&mut page)?;
-        let mut sum = Sum::default();
+        let mut written = Written { journal, page, sum: Sum::default(), files: HashMap::new() };
         in_order(orders, self.jobs, self.stop, play, |order, outcome| {
-            let outcome = named(outcome);
-            sum.add(&order, &outcome);
-            writeln!(lines, "{}", catalogue::line(&order, &outcome, self.settings))?;
-            page.write_all(page::row(&order, &outcome).as_bytes())
+            self.hand_over(&order, outcome, &mut written)
         })?;
+        let Written { journal, mut page, sum, files } = written;
         page::end(&mut page, &sum)?;
-        page.close()?.name()?;
-        lines.close()?.name()?;
-        Ok(sum)
+        let (page, journal) = (page.close()?, journal.close()?);
+        let stale = self.known.remove_stale(self.folder, &files);
+        page.name()?;
+        journal.name()?;
+        self.folder.finish()?;
+        Ok((sum, stale))
     }
-}
 
-/// The outcome with its file named, or failed.
-fn named(mut outcome: Outcome) -> Outcome {
-    if let Outcome::Rendered(rendered) = &mut outcome
-        && let Some(file) = rendered.file.take()
-        && let Err(error) = file.name()
-    {
-        return Outcome::unwritten(&error);
+    /// Writes an order's line, and gives its file the name.
+    fn hand_over(&self, order: &Order, outcome: Outcome, written: &mut Written) -> io::Result<()> {
+        let mut outcome = self.settled(order, outcome);
+        let line = |outcome: &Outcome| catalogue::line(order, outcome, self.settings);
+        written.journal.line(&line(&outcome))?;
+        if let Outcome::Rendered(rendered) = &mut outcome
+            && let Some(file) = rendered.file.take()
+            && let Err(error) = file.name()
+        {
+            outcome = Outcome::unwritten(&error);
+            written.journal.again(&line(&outcome))?;
+        }
+        if let Outcome::Rendered(_) | Outcome::Kept(_) = outcome {
+            written.files.insert(key(&file_of(order.name())), file_of(order.name()));
+        }
+        written.sum.add(order, &outcome);
+        written.page.write_all(page::row(order, &outcome).as_bytes())
     }
-    outcome
+
+    /// The outcome, where its file's name is free; of a note that a stop left, that of the run before.
+    fn settled(&self, order: &Order, outcome: Outcome) -> Outcome {
+        match &outcome {
+            Outcome::Rendered(rendered) => {
+                in_the_way(order, rendered, self.folder, self.known, self.is_forced)
+                    .unwrap_or(outcome)
+            }
+            Outcome::NotRendered => {
+                let made = catalogue::made(order, self.settings);
+                let unread = self.known.unread(self.folder, &file_of(order.name()), made);
+                unread.map_or(outcome, |unread| Outcome::Kept(Box::new(unread)))
+            }
+            _ => outcome,
+        }
+    }
 }
 
 #[cfg(test)]
 mod tests {
     use super::Run;
     use crate::catalogue::HEADER;
-    use crate::order::Orders;
+    use crate::known::Known;
+    use crate::order::{Order, Orders};
     use crate::outcome::Sum;
     use crate::sheet::{COLUMNS, Sheet};
     use crate::stop::Stop;
-    use crate::tests::{Folder, SETTINGS};
+    use crate::tests::{SETTINGS, Scratch};
 
     /// Renders a sheet, halting at the notes whose names begin with 'halt'.
-    fn run_that_halts(rows: &str, folder: &Folder, jobs: usize) -> Sum {
+    fn run_that_halts(rows: &str, scratch: &Scratch, jobs: usize) -> Sum {
         let text = format!("{}\n{rows}", COLUMNS.join(","));
         let orders = Orders::new(Sheet::new(text.as_bytes()).expect("a header"), &SETTINGS);
-        let stop = Stop::default();
-        let run = Run { folder: &folder.0, settings: &SETTINGS, jobs, stop: &stop };
-        let play = |order: &crate::order::Order| {
+        let (folder, known, stop) = (scratch.folder(), Known::default(), Stop::default());
+        let run = Run {
+            folder: &folder,
+            known: &known,
+            settings: &SETTINGS,
+            jobs,
+            stop: &stop,
+            is_forced: false,
+        };
+        let play = |order: &Order| {
             assert!(!order.name().starts_with("halt"), "here");
             run.play(order)
         };
-        run.run(orders, play).expect("the folder is written")
+        run.run(orders, play).expect("the folder is written").0
     }
 
     #[test]
@@ -92,19 +150,20 @@ mod tests {
             })
             .collect();
         for jobs in [1, 4] {
-            let folder = Folder::new("halt");
-            let sum = run_that_halts(&rows, &folder, jobs);
+            let scratch = Scratch::new("halt");
+            let sum = run_that_halts(&rows, &scratch, jobs);
             assert_eq!([sum.ordered, sum.rendered, sum.failed], [60, 51, 9]);
             assert!(sum.is_whole(60));
-            let catalogue = folder.read("catalogue.csv");
+            let catalogue = scratch.read("catalogue.csv");
             let mut lines = catalogue.lines();
             assert_eq!(lines.next(), Some(HEADER));
             for (k, line) in lines.enumerate() {
+                let at = k + 2;
                 let halted =
-                    format!("halt {k},failed,,,,,,,,,,,the renderer halted at it: here,{},", k + 2);
+                    format!("halt {k},failed,,,,,,,,,,,the renderer halted at it: here,{at},");
                 let whole = format!("note {k},rendered,note {k}.wav,480,");
                 assert!(line.starts_with(if k % 7 == 3 { &halted } else { &whole }), "{line}");
-                assert_eq!(folder.0.join(format!("note {k}.wav")).exists(), k % 7 != 3);
+                assert_eq!(scratch.0.join(format!("note {k}.wav")).exists(), k % 7 != 3);
             }
         }
     }

@@ -130,7 +130,7 @@ const BEHIND: &str =
     "text follows a quoted cell: take the quotes out, or write \"\" for a quote within it";
 
 /// The cells of a text, and what is wrong with its quotes.
-fn split(text: &str, separator: char) -> (Vec<String>, Option<&'static str>) {
+pub fn split(text: &str, separator: char) -> (Vec<String>, Option<&'static str>) {
     let mut cells = Vec::new();
     let mut cell = String::new();
     let mut fault = None;

@@ -1,5 +1,6 @@
 //! What several tests need.
 
+use crate::folder::Folder;
 use crate::render::Settings;
 use crate::wav::Format;
 use std::fs;
@@ -10,16 +11,21 @@ pub const SETTINGS: Settings =
     Settings { seed: 0, rate: 48000, format: Format::Float32, aux: false, longest: 24 };
 
 /// A folder of a test's own, removed with it.
-pub struct Folder(pub PathBuf);
+pub struct Scratch(pub PathBuf);
 
-impl Folder {
+impl Scratch {
     pub fn new(name: &str) -> Self {
         static FOLDERS: AtomicUsize = AtomicUsize::new(0);
         let number = FOLDERS.fetch_add(1, Ordering::Relaxed);
         let name = format!("bleidhvan-{name}-{}-{number}", std::process::id());
         let path = std::env::temp_dir().join(name);
         fs::create_dir_all(&path).expect("a folder is made");
-        Folder(path)
+        Scratch(path)
+    }
+
+    /// The folder as a run holds it.
+    pub fn folder(&self) -> Folder {
+        Folder::hold(&self.0, (PathBuf::new(), (0, 0))).expect("no other run holds it")
     }
 
     pub fn read(&self, name: &str) -> String {
@@ -27,7 +33,7 @@ impl Folder {
     }
 }
 
-impl Drop for Folder {
+impl Drop for Scratch {
     fn drop(&mut self) {
         drop(fs::remove_dir_all(&self.0));
     }

@@ -130,6 +130,29 @@ fn interleave<const N: usize>(
     }
 }
 
+/// The samples of the first channel of a file's data.
+pub fn samples(data: &[u8], format: Format, channels: usize) -> Vec<f32> {
+    let frames = data.chunks_exact(format.bytes() as usize * channels);
+    let sample = |frame: &[u8]| match (format, frame) {
+        (Format::Float32, [a, b, c, d, ..]) => f32::from_le_bytes([*a, *b, *c, *d]),
+        (Format::Int16, [a, b, ..]) => sample_of(i16::from_le_bytes([*a, *b])),
+        _ => 0.0,
+    };
+    frames.map(sample).collect()
+}
+
+/// A sample as it is heard from a file.
+pub fn written(sample: f32, format: Format) -> f32 {
+    match format {
+        Format::Float32 => sample,
+        Format::Int16 => sample_of(int16(sample)),
+    }
+}
+
+fn sample_of(step: i16) -> f32 {
+    f32::from(step) / 32767.0
+}
+
 /// The nearest of 65,536 steps, held to -1 to 1; a NaN is silent.
 fn int16(sample: f32) -> i16 {
     // Far below half a step it is 0, and a product that may be subnormal would take long.

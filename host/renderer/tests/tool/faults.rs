@@ -1,31 +1,12 @@
 //! Faults of the machine.
 
-use crate::run::{Folder, GOOD, files, lines, said, tool_in};
+use crate::run::{Folder, GOOD, is_clean, lines, said, signal, started, tool_in};
 use std::path::Path;
-use std::process::{Child, Command, Stdio};
-use std::thread::sleep;
-use std::time::{Duration, Instant};
-
-/// A long sheet: notes of 3 seconds.
-fn long(notes: usize) -> String {
-    let row = |k| format!("n{k},string,{},3,trigger,0.5,0.3,0.6,0.7\n", 30 + k % 60);
-    (0..notes).map(row).collect()
-}
 
 /// The lines of a catalogue that have a status.
 fn count(folder: &Path, status: &str) -> usize {
     let status = format!(",{status},");
     lines(folder).iter().filter(|line| line.contains(&status)).count()
-}
-
-/// No file but whole notes that the catalogue lists, the catalogue and the page.
-fn is_clean(folder: &Path) {
-    let lines = lines(folder);
-    for name in files(folder).into_keys() {
-        let quoted = if name.contains(',') { format!("\"{name}\"") } else { name.clone() };
-        let listed = lines.iter().any(|line| line.contains(&format!(",rendered,{quoted},")));
-        assert!(listed || ["catalogue.csv", "index.html"].contains(&&name[..]), "{name}");
-    }
 }
 
 /// A shell's limit stands in for a full disk: it needs no root.
@@ -45,26 +26,6 @@ fn a_note_that_cannot_be_written_fails_and_stops_no_other() {
     assert!(error.starts_with(&format!("failed: line 7, {reason}")), "{error}");
     assert!(lines(&out)[6].starts_with("long,failed,,,,,,,,,,,its file cannot be written: File"));
     is_clean(&out);
-}
-
-/// Starts a render of a long sheet, and waits until it has written a note.
-fn started(folder: &Folder, out: &Path) -> Child {
-    let sheet = folder.sheet(&long(400));
-    let mut command = Command::new(env!("CARGO_BIN_EXE_bleidhvan"));
-    command.arg("render").arg(sheet).arg("-o").arg(out).args(["--jobs", "2"]);
-    let child = command.stdout(Stdio::piped()).stderr(Stdio::piped()).spawn();
-    let child = child.expect("the tool starts");
-    let begun = Instant::now();
-    while !out.join("n5.wav").exists() {
-        assert!(begun.elapsed() < Duration::from_secs(60), "no note in a minute");
-        sleep(Duration::from_millis(5));
-    }
-    child
-}
-
-fn signal(child: &Child, name: &str) {
-    let status = Command::new("kill").args([name, &child.id().to_string()]).status();
-    assert!(status.expect("kill runs").success());
 }
 
 #[test]

@@ -2,6 +2,7 @@
 
 mod command;
 mod faults;
+mod folder;
 mod notes;
 mod run;
 mod sheets;

@@ -3,7 +3,9 @@
 use std::collections::BTreeMap;
 use std::fs;
 use std::path::{Path, PathBuf};
-use std::process::{Command, Output};
+use std::process::{Child, Command, Output, Stdio};
+use std::thread::sleep;
+use std::time::{Duration, Instant};
 
 pub const HEADER: &str = "name,kind,note,seconds,play,accent,structure,brightness,damping";
 
@@ -78,4 +80,41 @@ pub fn files(folder: &Path) -> BTreeMap<String, Vec<u8>> {
 pub fn lines(folder: &Path) -> Vec<String> {
     let text = fs::read_to_string(folder.join("catalogue.csv")).expect("the catalogue is read");
     text.lines().map(str::to_string).collect()
+}
+
+/// A long sheet: notes of 3 seconds.
+pub fn long(notes: usize) -> String {
+    let row = |k| format!("n{k},string,{},3,trigger,0.5,0.3,0.6,0.7\n", 30 + k % 60);
+    (0..notes).map(row).collect()
+}
+
+/// No file but whole notes that the catalogue lists, the catalogue and the page.
+pub fn is_clean(folder: &Path) {
+    let lines = lines(folder);
+    for name in files(folder).into_keys() {
+        let quoted = if name.contains(',') { format!("\"{name}\"") } else { name.clone() };
+        let listed = lines.iter().any(|line| line.contains(&format!(",rendered,{quoted},")));
+        assert!(listed || ["catalogue.csv", "index.html"].contains(&&name[..]), "{name}");
+    }
+}
+
+/// Starts a render of a long sheet, and waits until it has written a note.
+pub fn started(folder: &Folder, out: &Path) -> Child {
+    let sheet = folder.sheet(&long(400));
+    let mut command = Command::new(env!("CARGO_BIN_EXE_bleidhvan"));
+    command.arg("render").arg(sheet).arg("-o").arg(out).args(["--jobs", "2"]);
+    let child = command.stdout(Stdio::piped()).stderr(Stdio::piped()).spawn();
+    let child = child.expect("the tool starts");
+    let begun = Instant::now();
+    // The lock comes before the journal.
+    while !out.join("n5.wav").exists() {
+        assert!(begun.elapsed() < Duration::from_secs(60), "no note in a minute");
+        sleep(Duration::from_millis(5));
+    }
+    child
+}
+
+pub fn signal(child: &Child, name: &str) {
+    let status = Command::new("kill").args([name, &child.id().to_string()]).status();
+    assert!(status.expect("kill runs").success());
 }

@@ -75,9 +75,9 @@ fn a_wrong_header_names_the_columns() {
 #[test]
 fn a_stray_quote_refuses_its_line_alone() {
     let folder = Folder::new("quote");
-    let out = folder.path("notes");
     let rows: Vec<&str> = GOOD.lines().collect();
     for (place, row) in rows.iter().enumerate() {
+        let out = folder.path(&place.to_string());
         let stray = format!("\"{}", row.replace('"', ""));
         let mut sheet = rows.clone();
         sheet[place] = &stray;
