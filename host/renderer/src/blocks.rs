@@ -81,7 +81,6 @@ mod tests {
     use super::{LONG, SHORT};
     use crate::chance::Chance;
     use crate::known::Known;
-    use crate::order::Orders;
     use crate::render::Settings;
     use crate::run::Run;
     use crate::sheet::{COLUMNS, Sheet};
@@ -148,17 +147,17 @@ mod tests {
         let (folder, known) = (scratch.folder(), Known::default());
         let text = format!("{}\n{rows}", COLUMNS.join(","));
         let sheet = Sheet::new(text.as_bytes()).expect("the sheet has its header");
-        let orders = Orders::new(sheet, settings);
         let stop = Stop::default();
         let run = Run {
             folder: &folder,
             known: &known,
             settings,
+            ordered: rows.lines().count(),
             jobs: 2,
             stop: &stop,
             is_forced: false,
         };
-        let (sum, _) = run.run(orders, |order| run.play(order)).expect("the folder is written");
+        let (sum, _) = run.run(sheet, |order| run.play(order)).expect("the folder is written");
         assert_eq!(sum.rendered, rows.lines().count());
         let entries = fs::read_dir(&scratch.0).expect("the folder is read");
         let files = entries.map(|entry| {

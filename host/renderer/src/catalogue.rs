@@ -17,6 +17,9 @@ pub const HEADER: &str = "name,status,file,frames,peak,burst,dust,dispersion,num
 const COLUMNS: usize = 28;
 const FIRST_MADE: usize = 14;
 
+/// The bytes that a note's line may have beyond one that was not rendered: its file, its numbers and a checksum, or a reason.
+pub const MORE: usize = 800;
+
 /// The name of a note's file.
 pub fn file_of(name: &str) -> String {
     format!("{name}.wav")

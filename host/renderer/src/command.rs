@@ -19,7 +19,8 @@ SHEET is a CSV file with a header ('-' reads it from standard input), one note a
               the knobs, each from 0 to 1
 
 DIR gets one WAV file a note, catalogue.csv with a line for every note, what became of it, what made
-it and the SHA-256 of its file, and index.html, the catalogue as a page.
+it and the SHA-256 of its file, and index.html, the catalogue as a page; index-2.html and so on have
+the notes behind the first 250.
 
 Options:
   -o DIR      the folder to write to; it is made where it is not there

@@ -48,9 +48,7 @@ impl Folder {
                 ));
             }
         }
-        let folder = Folder { path: path.into(), _lock: lock, sheet };
-        folder.look()?;
-        Ok(folder)
+        Ok(Folder { path: path.into(), _lock: lock, sheet })
     }
 
     pub fn file(&self, name: &str) -> PathBuf {
@@ -64,31 +62,30 @@ impl Folder {
         found.is_some() && (found == Some(*read) || found == identity(sheet))
     }
 
-    /// Looks that nothing is written over that no run wrote.
-    fn look(&self) -> Result<(), String> {
-        let is_part =
-            self.sheet.0.file_name().is_some_and(|name| name.to_string_lossy().starts_with(PREFIX));
-        if is_part {
+    /// Looks that neither the catalogue nor one of so many pages is written over what no run wrote.
+    pub fn look(&self, pages: usize) -> Result<(), String> {
+        let name = self.sheet.0.file_name().unwrap_or_default().to_string_lossy();
+        if name.starts_with(PREFIX) {
             return Err(format!("the sheet's name begins with {PREFIX}, as parts do: rename it"));
         }
-        for (name, is_ours) in [
-            (catalogue::FILE, catalogue::is_ours as fn(&[u8]) -> bool),
-            (page::FILE, page::is_ours),
-        ] {
-            let path = self.file(name);
-            let shown = path.display();
-            if self.is_sheet(&path) {
-                return Err(format!(
-                    "the sheet is {shown}, where {name} would be written: rename it, or name another folder"
-                ));
-            }
-            let beginning =
-                beginning(&path).map_err(|error| format!("{shown} cannot be read: {error}"))?;
-            if beginning.is_some_and(|text| !is_ours(&text)) {
-                return Err(format!(
-                    "{shown} is there, and no run wrote it: move it away, or name another folder"
-                ));
-            }
+        self.look_at(catalogue::FILE, catalogue::is_ours)?;
+        (1..=pages).try_for_each(|number| self.look_at(&page::file(number), page::is_ours))
+    }
+
+    fn look_at(&self, name: &str, is_ours: fn(&[u8]) -> bool) -> Result<(), String> {
+        let path = self.file(name);
+        let shown = path.display();
+        if self.is_sheet(&path) {
+            return Err(format!(
+                "the sheet is {shown}, where {name} would be written: rename it, or name another folder"
+            ));
+        }
+        let beginning =
+            beginning(&path).map_err(|error| format!("{shown} cannot be read: {error}"))?;
+        if beginning.is_some_and(|text| !is_ours(&text)) {
+            return Err(format!(
+                "{shown} is there, and no run wrote it: move it away, or name another folder"
+            ));
         }
         Ok(())
     }
@@ -98,9 +95,10 @@ impl Folder {
         let cut_off = self.file(CUT_OFF);
         let journal = crate::part::part_of(&self.file(catalogue::FILE))?;
         let mut text = read(&cut_off)?;
-        if !self.is_sheet(&journal) && journal.exists() {
+        if journal.exists() {
             text.extend(b"\n");
-            text.extend(read(&journal)?);
+            // The room behind its last line is line ends.
+            text.extend(read(&journal)?.trim_ascii_end());
             // The one takes the place of the other at once, so that nothing is lost where this run is cut off too.
             let new = self.file(&format!("{PREFIX}new{SUFFIX}"));
             fs::write(&new, &text).inspect_err(|_| drop(fs::remove_file(&new)))?;

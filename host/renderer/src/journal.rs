@@ -14,9 +14,9 @@ pub struct Journal {
 }
 
 impl Journal {
-    /// Begins the catalogue at the path. Its part stays where it is not closed, for the next run.
-    pub fn begin(path: &Path) -> io::Result<Self> {
-        let mut part = Part::create(path)?;
+    /// Begins the catalogue at the path, with room for so many bytes. Its part stays where it is not closed, for the next run.
+    pub fn begin(path: &Path, room: u64) -> io::Result<Self> {
+        let mut part = Part::with_room(path, room)?;
         part.leave();
         let mut journal = Journal { part, last: 0, end: 0 };
         journal.line(catalogue::HEADER)?;

@@ -6,6 +6,7 @@ fn is_blank(byte: u8) -> bool {
 }
 
 /// The lines that are not blank, each with its number. A line ends in LF, CR or both.
+#[derive(Clone)]
 pub struct Lines<'a> {
     rest: &'a [u8],
     number: usize,

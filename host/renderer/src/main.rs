@@ -18,6 +18,7 @@ mod note;
 mod order;
 mod outcome;
 mod page;
+mod pages;
 mod part;
 mod pitch;
 mod progress;
@@ -25,6 +26,7 @@ mod progress;
 mod random_sheets;
 mod render;
 mod report;
+mod room;
 mod run;
 mod sheet;
 mod stop;
@@ -36,7 +38,6 @@ mod work;
 
 use command::{Asked, HELP};
 use folder::{Folder, Identity};
-use order::Orders;
 use progress::Progress;
 use report::{complain, say};
 use run::Run;
@@ -90,20 +91,27 @@ fn render_sheet(asked: &Asked) -> Result<u8, String> {
         return Ok(REFUSED);
     }
     let folder = Folder::hold(&asked.folder, (asked.sheet.clone().into(), read))?;
+    folder.look(ordered.div_ceil(page::ROWS))?;
     let stop = Stop::listen().map_err(|error| format!("signals cannot be listened to: {error}"))?;
     hush_workers();
     let unwritable = |error: io::Error| match error.kind() {
         ErrorKind::OutOfMemory => "there is no memory for one job: give it some 20 MB".into(),
+        ErrorKind::StorageFull | ErrorKind::QuotaExceeded => {
+            let folder = asked.folder.display();
+            format!(
+                "{folder} has no room for the catalogue and its page: make some, and run this again"
+            )
+        }
         _ => format!("{} cannot be written: {error}", asked.folder.display()),
     };
     let known = folder.known().map_err(unwritable)?;
     let (settings, is_forced) = (&asked.settings, asked.is_forced);
     // A job more than there are notes would have nothing to do.
     let jobs = asked.jobs.min(ordered);
-    let run = Run { folder: &folder, known: &known, settings, jobs, stop: &stop, is_forced };
+    let (folder, known, stop) = (&folder, &known, &stop);
+    let run = Run { folder, known, settings, ordered, jobs, stop, is_forced };
     let progress = Progress::new(asked.is_quiet, ordered);
-    let orders = Orders::new(sheet.part_from(asked.first_line), settings);
-    let done = run.run(orders, |order| {
+    let done = run.run(sheet.part_from(asked.first_line), |order| {
         let outcome = run.play(order);
         progress.note();
         outcome

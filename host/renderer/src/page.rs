@@ -1,12 +1,10 @@
-//! The catalogue as a page: no network and no script.
+//! The catalogue as pages: no network and no script.
 
 use crate::catalogue::file_of;
 use crate::order::Order;
 use crate::outcome::{Outcome, Rendered, Sum};
-use crate::part::Part;
 use crate::sheet::COLUMNS as NAMES;
 use crate::wave::COLUMNS;
-use std::io::{self, Write};
 
 /// The first page's file.
 pub const FILE: &str = "index.html";
@@ -37,30 +35,68 @@ tbody th { white-space: nowrap }
 svg { display: block; width: 15rem; height: 3rem; color: #2b6c8f }
 audio { width: 16rem }
 .refused td, .refused th { background: #fff4f0 }
+nav a, nav span { margin-right: .5rem }
+nav span { color: #999 }
 .knobs { font-size: .9rem; color: #555 }
 </style>
 <h1>Catalogue</h1>
 ";
 
-/// The bytes of the line that sums up the notes.
+/// The notes of a page.
+pub const ROWS: usize = 250;
+
+/// The bytes of the line that sums up the notes, and where it stands.
 const SUM: usize = 160;
+pub const SUM_AT: u64 = HEAD.len() as u64;
+
+/// The most bytes of a page without its rows.
+pub const FRAME: usize = HEAD.len() + SUM + 1500;
+
+/// The bytes that a note's row may have beyond one that was not rendered: its waveform and its player, or a reason.
+pub const MORE: usize = COLUMNS * 18 + 1500;
+
+/// The file of a page.
+pub fn file(number: usize) -> String {
+    if number == 1 { FILE.into() } else { format!("index-{number}.html") }
+}
 
 /// The line that sums up the notes, padded so that it can be written over.
-fn summed(sum: &Sum) -> String {
+pub fn summed(sum: &Sum) -> String {
     let line = format!("<p>{}.</p>", sum.of_all_runs().text());
     format!("{line:<SUM$}\n")
 }
 
-/// Writes the page's beginning.
-pub fn begin(page: &mut impl Write) -> io::Result<()> {
-    writeln!(page, "{HEAD}{}<table>", summed(&Sum::default()))?;
-    writeln!(page, "<thead><tr><th>Name<th>Sound<th>Waveform<th>Knobs</thead>\n<tbody>")
+/// The beginning of a page, the first of which has the sum.
+pub fn begin(number: usize, pages: usize, ordered: usize) -> String {
+    let (first, last) = ((number - 1) * ROWS + 1, (number * ROWS).min(ordered));
+    let sum = if number == 1 { summed(&Sum::default()) } else { String::new() };
+    let part = match pages {
+        1 => String::new(),
+        _ => format!("<p>Notes {first} to {last} of {ordered}.</p>\n{}", links(number, pages)),
+    };
+    format!(
+        "{HEAD}{sum}{part}<table>\n<thead><tr><th>Name<th>Sound<th>Waveform<th>Knobs</thead>\n<tbody>\n"
+    )
 }
 
-/// The page's last line, and the sum with its place.
-pub fn end(page: &mut Part, sum: &Sum) -> io::Result<()> {
-    writeln!(page, "</table>")?;
-    page.overwrite(HEAD.len() as u64, summed(sum).as_bytes())
+/// The end of a page.
+pub fn end(number: usize, pages: usize) -> String {
+    format!("</table>\n{}", if pages == 1 { String::new() } else { links(number, pages) })
+}
+
+/// The way to the pages around one.
+fn links(number: usize, pages: usize) -> String {
+    let link = |to: usize, text: &str| match to {
+        to if to == number || to == 0 || to > pages => format!("<span>{text}</span>"),
+        _ => format!("<a href=\"{}\">{text}</a>", file(to)),
+    };
+    let links = [
+        link(1, "first"),
+        link(number - 1, "before"),
+        link(number + 1, "next"),
+        link(pages, "last"),
+    ];
+    format!("<nav>Page {number} of {pages}: {}</nav>\n", links.join(" "))
 }
 
 /// The lines of a note.

@@ -1,7 +1,7 @@
 //! Files that take their names only once they are whole.
 
 use std::fs::{self, File, OpenOptions};
-use std::io::{self, BufWriter, Seek, SeekFrom, Write};
+use std::io::{self, BufWriter, Read, Seek, SeekFrom, Write};
 use std::path::{Path, PathBuf};
 
 /// What the names of parts begin with, which is the beginning of no note's name.
@@ -39,11 +39,12 @@ impl Part {
         Ok(Part { whole, file: BufWriter::new(file) })
     }
 
-    /// Writes bytes over those at a place, and goes on at the end.
-    pub fn overwrite(&mut self, place: u64, bytes: &[u8]) -> io::Result<()> {
-        self.file.seek(SeekFrom::Start(place))?;
-        self.file.write_all(bytes)?;
-        self.file.seek(SeekFrom::End(0)).map(|_| ())
+    /// Begins a file that has so many bytes for sure, which are line ends until they are written over.
+    pub fn with_room(path: &Path, bytes: u64) -> io::Result<Self> {
+        let mut part = Part::create(path)?;
+        io::copy(&mut io::repeat(b'\n').take(bytes), &mut part)?;
+        part.go_to(0)?;
+        Ok(part)
     }
 
     /// Goes on at a place.
@@ -81,6 +82,19 @@ impl Write for Part {
 }
 
 impl Whole {
+    /// Opens the file at its beginning.
+    pub fn open(self) -> io::Result<Part> {
+        let file = OpenOptions::new().write(true).open(&self.part)?;
+        Ok(Part { whole: self, file: BufWriter::new(file) })
+    }
+
+    /// Writes bytes over those at a place.
+    pub fn overwrite(&mut self, place: u64, bytes: &[u8]) -> io::Result<()> {
+        let mut file = OpenOptions::new().write(true).open(&self.part)?;
+        file.seek(SeekFrom::Start(place))?;
+        file.write_all(bytes)
+    }
+
     /// Gives the file its name.
     pub fn name(mut self) -> io::Result<()> {
         fs::rename(&self.part, &self.path)?;

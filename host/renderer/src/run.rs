@@ -9,18 +9,22 @@ use crate::name::key;
 use crate::order::{Order, Orders};
 use crate::outcome::{Outcome, Sum};
 use crate::page;
-use crate::part::Part;
+use crate::pages::{self, Pages};
 use crate::render::{Settings, render};
+use crate::room::Room;
+use crate::sheet::Sheet;
 use crate::stop::Stop;
 use crate::work::in_order;
 use std::collections::HashMap;
-use std::io::{self, Write};
+use std::io;
 
 /// Where and how a sheet is rendered.
 pub struct Run<'a> {
     pub folder: &'a Folder,
     pub known: &'a Known,
     pub settings: &'a Settings,
+    /// The notes that the sheet orders.
+    pub ordered: usize,
     pub jobs: usize,
     pub stop: &'a Stop,
     /// Whether nothing of earlier runs is kept.
@@ -30,7 +34,7 @@ pub struct Run<'a> {
 /// What a run has written so far.
 struct Written {
     journal: Journal,
-    page: Part,
+    pages: Pages,
     sum: Sum,
     /// The files of this run, by what they are to file systems.
     files: HashMap<String, String>,
@@ -51,24 +55,24 @@ impl Run<'_> {
         render(&order.row, note, self.settings, &self.folder.file(&file), self.stop)
     }
 
-    /// Plays orders into the folder, and writes the catalogue and the page.
+    /// Plays the orders of a sheet into the folder, and writes the catalogue and its pages.
     pub fn run(
         &self,
-        orders: Orders,
+        sheet: Sheet,
         play: impl Fn(&Order) -> Outcome + Sync,
     ) -> io::Result<(Sum, Stale)> {
-        let journal = Journal::begin(&self.folder.file(catalogue::FILE))?;
-        let mut page = Part::create(&self.folder.file(page::FILE))?;
-        page::begin(&mut page)?;
-        let mut written = Written { journal, page, sum: Sum::default(), files: HashMap::new() };
-        in_order(orders, self.jobs, self.stop, play, |order, outcome| {
+        let orders = || Orders::new(sheet.clone(), self.settings);
+        let room = Room::of(orders(), self.settings);
+        let pages = Pages::begin(self.folder, &room.pages, self.ordered)?;
+        let journal = Journal::begin(&self.folder.file(catalogue::FILE), room.catalogue)?;
+        let mut written = Written { journal, pages, sum: Sum::default(), files: HashMap::new() };
+        in_order(orders(), self.jobs, self.stop, play, |order, outcome| {
             self.hand_over(&order, outcome, &mut written)
         })?;
-        let Written { journal, mut page, sum, files } = written;
-        page::end(&mut page, &sum)?;
-        let (page, journal) = (page.close()?, journal.close()?);
+        let Written { journal, pages, sum, files } = written;
+        let (pages, journal) = (pages.close(&sum)?, journal.close()?);
         let stale = self.known.remove_stale(self.folder, &files);
-        page.name()?;
+        pages::name(pages, self.folder)?;
         journal.name()?;
         self.folder.finish()?;
         Ok((sum, stale))
@@ -90,7 +94,7 @@ impl Run<'_> {
             written.files.insert(key(&file_of(order.name())), file_of(order.name()));
         }
         written.sum.add(order, &outcome);
-        written.page.write_all(page::row(order, &outcome).as_bytes())
+        written.pages.row(&page::row(order, &outcome))
     }
 
     /// The outcome, where its file's name is free; of a note that a stop left, that of the run before.
@@ -115,7 +119,7 @@ mod tests {
     use super::Run;
     use crate::catalogue::HEADER;
     use crate::known::Known;
-    use crate::order::{Order, Orders};
+    use crate::order::Order;
     use crate::outcome::Sum;
     use crate::sheet::{COLUMNS, Sheet};
     use crate::stop::Stop;
@@ -124,12 +128,13 @@ mod tests {
     /// Renders a sheet, halting at the notes whose names begin with 'halt'.
     fn run_that_halts(rows: &str, scratch: &Scratch, jobs: usize) -> Sum {
         let text = format!("{}\n{rows}", COLUMNS.join(","));
-        let orders = Orders::new(Sheet::new(text.as_bytes()).expect("a header"), &SETTINGS);
+        let sheet = Sheet::new(text.as_bytes()).expect("a header");
         let (folder, known, stop) = (scratch.folder(), Known::default(), Stop::default());
         let run = Run {
             folder: &folder,
             known: &known,
             settings: &SETTINGS,
+            ordered: rows.lines().count(),
             jobs,
             stop: &stop,
             is_forced: false,
@@ -138,7 +143,7 @@ mod tests {
             assert!(!order.name().starts_with("halt"), "here");
             run.play(order)
         };
-        run.run(orders, play).expect("the folder is written").0
+        run.run(sheet, play).expect("the folder is written").0
     }
 
     #[test]

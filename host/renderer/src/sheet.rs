@@ -18,6 +18,7 @@ pub struct Row {
 }
 
 /// The rows of a sheet behind its header.
+#[derive(Clone)]
 pub struct Sheet<'a> {
     lines: Lines<'a>,
     separator: char,

@@ -1,6 +1,7 @@
 //! The tool, run as a user runs it.
 
 mod command;
+mod disk;
 mod faults;
 mod folder;
 mod notes;

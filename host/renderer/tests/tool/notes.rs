@@ -85,3 +85,26 @@ fn jobs_and_order_change_no_byte() {
     tool(&[&"render", &folder.sheet(GOOD), &"-o", &out, &"--seed", &"1"]);
     assert_ne!(files(&out)["pluck.wav"], one["pluck.wav"]);
 }
+
+#[test]
+fn many_notes_are_pages_that_lead_to_each_other() {
+    let folder = Folder::new("pages");
+    let out = folder.path("notes");
+    let row = |k: usize| format!("n{k},modal,A3,0.001,trigger,.5,.4,.5,.5\n");
+    let rows: String = (0..501).map(row).collect();
+    assert_eq!(said(&tool(&[&"render", &folder.sheet(&rows), &"-o", &out])).0, 0);
+    let page = |name: &str| fs::read_to_string(out.join(name)).expect("the page is read");
+    let [first, second, third] = ["index.html", "index-2.html", "index-3.html"].map(page);
+    let rows = |page: &str| page.matches("<tr><th>n").count();
+    assert_eq!([rows(&first), rows(&second), rows(&third)], [250, 250, 1]);
+    assert!(first.contains("501 notes ordered = 501 rendered + 0 refused."));
+    assert!(second.contains("Notes 251 to 500 of 501.") && third.contains("<tr><th>n500<td>"));
+    assert!(first.contains("<a href=\"index-2.html\">next</a>"));
+    assert!(second.contains("<a href=\"index.html\">before</a>"));
+    assert!(third.contains("<span>next</span>") && third.ends_with("</nav>\n"));
+    assert_eq!(said(&tool(&[&"render", &folder.sheet(GOOD), &"-o", &out])).0, 0);
+    let names: Vec<String> =
+        files(&out).into_keys().filter(|name| name.contains("index")).collect();
+    assert_eq!(names, ["index.html"]);
+    assert!(!page("index.html").contains("<nav>"));
+}

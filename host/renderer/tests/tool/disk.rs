@@ -1,0 +1,107 @@
+//! Full disks.
+
+use crate::run::{Folder, files, is_clean, lines, said, tool};
+use std::fs;
+use std::io::Write;
+use std::path::{Path, PathBuf};
+use std::process::Command;
+
+/// A file system of a few kilobytes, unmounted with it.
+struct Small(PathBuf);
+
+impl Small {
+    /// None, with a line that says so, where a file system may not be mounted.
+    fn mounted(path: PathBuf, kilobytes: usize) -> Option<Self> {
+        fs::create_dir_all(&path).expect("a folder is made");
+        let small = Small(path);
+        if !small.mount(&format!("size={kilobytes}k"), "tmpfs") {
+            let why = "a small file system cannot be mounted here, as root may";
+            writeln!(std::io::stderr(), "test: skipped: full disks: {why}").expect("it is said");
+            std::mem::forget(small);
+            return None;
+        }
+        Some(small)
+    }
+
+    fn mount(&self, options: &str, device: &str) -> bool {
+        let mut command = Command::new("mount");
+        command.args(["-t", "tmpfs", "-o", options, device]).arg(&self.0);
+        command.output().is_ok_and(|output| output.status.success())
+    }
+}
+
+impl Drop for Small {
+    fn drop(&mut self) {
+        drop(Command::new("umount").arg(&self.0).output());
+    }
+}
+
+/// Notes of 20 to 290 kilobytes, 4.7 megabytes in all.
+fn rows() -> String {
+    (0..30)
+        .map(|k| {
+            format!(
+                "n{k},modal,{},{},trigger,.5,.4,.5,.5\n",
+                40 + k,
+                0.1 + (k * 7 % 15) as f64 / 10.0
+            )
+        })
+        .collect()
+}
+
+/// The number before a word of the sum.
+fn number(sum: &str, word: &str) -> usize {
+    let before = sum.split(&format!(" {word}")).next().unwrap_or_default();
+    let number = before.rsplit(' ').next().and_then(|number| number.parse().ok());
+    number.filter(|_| sum.contains(word)).unwrap_or_default()
+}
+
+/// Renders to a disk of so many kilobytes, and again once there is room; gives the first run's exit status.
+fn full(folder: &Folder, kilobytes: usize, jobs: usize, whole: &Path) -> Option<i32> {
+    let out = folder.path(&format!("{kilobytes}-{jobs}"));
+    let small = Small::mounted(out.clone(), kilobytes)?;
+    let (sheet, jobs) = (folder.sheet(&rows()), jobs.to_string());
+    let render = || said(&tool(&[&"render", &sheet, &"-o", &out, &"--jobs", &jobs]));
+    let (status, sum, error) = render();
+    let [rendered, failed] = ["rendered", "failed"].map(|word| number(&sum, word));
+    match status {
+        2 => {
+            assert!(error.contains("no room for the catalogue and its page"), "{error}");
+            assert_eq!(files(&out).len(), 0);
+        }
+        3 => {
+            assert!(sum.starts_with("30 notes ordered = ") && failed > 0, "{sum}");
+            assert!(error.contains("its file cannot be written: No space left"), "{error}");
+        }
+        _ => assert_eq!((status, failed), (0, 0), "{error}"),
+    }
+    if status != 2 {
+        assert_eq!(rendered + failed, 30);
+        assert_eq!(lines(&out).len(), 31);
+        let page = fs::read_to_string(out.join("index.html")).expect("the page is read");
+        assert!(page.ends_with("</table>\n") && page.matches("<tr").count() == 31);
+        is_clean(&out);
+    }
+    assert!(small.mount("remount,size=20000k", "tmpfs"));
+    let (again, sum, error) = render();
+    assert_eq!((again, number(&sum, "kept")), (0, rendered), "{sum}{error}");
+    assert!(files(&out) == files(whole));
+    Some(status)
+}
+
+#[test]
+fn a_full_disk_has_its_catalogue_and_fails_what_it_cannot_hold() {
+    let folder = Folder::new("full");
+    let whole = folder.path("whole");
+    assert_eq!(said(&tool(&[&"render", &folder.sheet(&rows()), &"-o", &whole])).0, 0);
+    let mut statuses = Vec::new();
+    for kilobytes in (100..6200).step_by(300) {
+        match full(&folder, kilobytes, 1 + kilobytes / 100 % 3, &whole) {
+            Some(status) => statuses.push(status),
+            None => return,
+        }
+    }
+    for status in [0, 2, 3] {
+        assert!(statuses.contains(&status), "{statuses:?}");
+    }
+}
