@@ -36,7 +36,7 @@ mod wav;
 mod wave;
 mod work;
 
-use command::{Asked, HELP};
+use command::{Asked, Command, HELP};
 use folder::{Folder, Identity};
 use progress::Progress;
 use report::{complain, say};
@@ -56,23 +56,23 @@ const WRONG: u8 = 2;
 const FAILED: u8 = 3;
 
 fn main() -> ExitCode {
-    let words: Vec<String> = match std::env::args_os().skip(1).map(|w| w.into_string()).collect() {
-        Ok(words) => words,
-        Err(word) => return wrong(&format!("{} is not UTF-8", word.display())),
-    };
-    let has = |name: &str| words.iter().any(|word| word == name);
-    if words.is_empty() || has("--help") || has("-h") {
+    let words: Vec<_> = std::env::args_os().skip(1).collect();
+    if words.is_empty() {
         say(HELP);
-        return if words.is_empty() { ExitCode::from(WRONG) } else { ExitCode::SUCCESS };
+        return ExitCode::from(WRONG);
     }
-    if has("--version") {
-        say(&format!("bleidhvan {}", env!("CARGO_PKG_VERSION")));
-        return ExitCode::SUCCESS;
-    }
-    match command::read(words).and_then(|asked| render_sheet(&asked)) {
-        Ok(status) => ExitCode::from(status),
-        Err(message) => wrong(&message),
-    }
+    let status = command::read(words).and_then(|command| match command {
+        Command::Render(asked) => render_sheet(&asked),
+        Command::Help => {
+            say(HELP);
+            Ok(0)
+        }
+        Command::Version => {
+            say(&format!("bleidhvan {}", env!("CARGO_PKG_VERSION")));
+            Ok(0)
+        }
+    });
+    status.map_or_else(|message| wrong(&message), ExitCode::from)
 }
 
 fn wrong(message: &str) -> ExitCode {
@@ -83,14 +83,14 @@ fn wrong(message: &str) -> ExitCode {
 /// Renders the sheet, and gives the exit status.
 fn render_sheet(asked: &Asked) -> Result<u8, String> {
     let (text, read) = read_sheet(&asked.sheet)?;
-    let sheet = Sheet::new(&text).map_err(|error| format!("{}: {error}", asked.sheet))?;
+    let shown = asked.sheet.display();
+    let sheet = Sheet::new(&text).map_err(|error| format!("{shown}: {error}"))?;
     let ordered = lines::counted(&text);
     if ordered == 0 {
-        let sheet = &asked.sheet;
-        complain(&format!("{sheet} orders no note: it has a header, and no line behind it"));
+        complain(&format!("{shown} orders no note: it has a header, and no line behind it"));
         return Ok(REFUSED);
     }
-    let folder = Folder::hold(&asked.folder, (asked.sheet.clone().into(), read))?;
+    let folder = Folder::hold(&asked.folder, (asked.sheet.clone(), read))?;
     folder.look(ordered.div_ceil(page::ROWS))?;
     let stop = Stop::listen().map_err(|error| format!("signals cannot be listened to: {error}"))?;
     hush_workers();
@@ -119,10 +119,13 @@ fn render_sheet(asked: &Asked) -> Result<u8, String> {
     progress.end();
     let (sum, stale) = done.map_err(unwritable)?;
     report::told(asked, ordered, &sum, &stale)?;
-    Ok(match (sum.not_rendered, sum.failed, sum.refused) {
-        (1.., _, _) => stop.status(),
-        (_, 1.., _) => FAILED,
-        (_, _, 1..) => REFUSED,
+    Ok(match (sum.failed, sum.refused) {
+        _ if stop.is_asked() => {
+            complain("stopped: the same command goes on from here");
+            stop.status()
+        }
+        (1.., _) => FAILED,
+        (_, 1..) => REFUSED,
         _ => 0,
     })
 }
@@ -141,23 +144,25 @@ fn hush_workers() {
 const MOST_BYTES: u64 = 1 << 30;
 
 /// The sheet's text, and which file it is.
-fn read_sheet(sheet: &str) -> Result<(Vec<u8>, Identity), String> {
-    let unreadable = |error| format!("{sheet} cannot be read: {error}");
-    let path = if sheet == "-" { "/dev/stdin" } else { sheet };
-    let input: Box<dyn Read> = if sheet == "-" {
+fn read_sheet(sheet: &Path) -> Result<(Vec<u8>, Identity), String> {
+    let shown = sheet.display();
+    let unreadable = |error| format!("{shown} cannot be read: {error}");
+    let is_input = sheet == Path::new("-");
+    let path = if is_input { Path::new("/dev/stdin") } else { sheet };
+    let input: Box<dyn Read> = if is_input {
         Box::new(io::stdin().lock())
     } else {
         Box::new(File::open(path).map_err(unreadable)?)
     };
     if fs::metadata(path).is_ok_and(|data| data.is_dir()) {
-        return Err(format!("{sheet} is a folder: name a CSV file"));
+        return Err(format!("{shown} is a folder: name a CSV file"));
     }
     // A pipe that is gone is no file of the folder.
-    let read = folder::identity(Path::new(path)).unwrap_or_default();
+    let read = folder::identity(path).unwrap_or_default();
     let mut text = Vec::new();
     input.take(MOST_BYTES + 1).read_to_end(&mut text).map_err(unreadable)?;
     if text.len() as u64 > MOST_BYTES {
-        return Err(format!("{sheet} is longer than {MOST_BYTES} bytes: split it"));
+        return Err(format!("{shown} is longer than {MOST_BYTES} bytes: split it"));
     }
     Ok((text, read))
 }

@@ -7,7 +7,7 @@ use crate::journal::Journal;
 use crate::known::{Known, Stale};
 use crate::name::key;
 use crate::order::{Order, Orders};
-use crate::outcome::{Outcome, Sum};
+use crate::outcome::{Outcome, Rendered, Sum};
 use crate::page;
 use crate::pages::{self, Pages};
 use crate::render::{Settings, render};
@@ -44,15 +44,19 @@ impl Run<'_> {
     /// What becomes of an order.
     pub fn play(&self, order: &Order) -> Outcome {
         let Ok(note) = &order.note else { return Outcome::unplayed(order) };
-        let file = file_of(order.name());
-        if !self.is_forced {
-            let made = catalogue::made(order, self.settings);
-            let kept = self.known.kept(self.folder, &file, made, self.settings, self.stop);
-            if let Some(kept) = kept {
-                return Outcome::Kept(Box::new(kept));
-            }
+        if !self.is_forced
+            && let Some(kept) = self.kept(order)
+        {
+            return Outcome::Kept(kept);
         }
-        render(&order.row, note, self.settings, &self.folder.file(&file), self.stop)
+        let path = self.folder.file(&file_of(order.name()));
+        render(&order.row, note, self.settings, &path, self.stop)
+    }
+
+    /// The note of an earlier run, where nothing has changed since.
+    fn kept(&self, order: &Order) -> Option<Box<Rendered>> {
+        let (file, made) = (file_of(order.name()), catalogue::made(order, self.settings));
+        self.known.kept(self.folder, &file, made, self.settings, self.stop).map(Box::new)
     }
 
     /// Plays the orders of a sheet into the folder, and writes the catalogue and its pages.
@@ -97,13 +101,14 @@ impl Run<'_> {
         written.pages.row(&page::row(order, &outcome))
     }
 
-    /// The outcome, where its file's name is free; of a note that a stop left, that of the run before.
+    /// The outcome, where its file's name is free; of a note that failed or that a stop left, that of the run before.
     fn settled(&self, order: &Order, outcome: Outcome) -> Outcome {
         match &outcome {
             Outcome::Rendered(rendered) => {
                 in_the_way(order, rendered, self.folder, self.known, self.is_forced)
                     .unwrap_or(outcome)
             }
+            Outcome::Failed(_) => self.kept(order).map_or(outcome, Outcome::Kept),
             Outcome::NotRendered => {
                 let made = catalogue::made(order, self.settings);
                 let unread = self.known.unread(self.folder, &file_of(order.name()), made);

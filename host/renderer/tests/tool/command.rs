@@ -1,7 +1,9 @@
 //! What the command line says where it is wrong.
 
 use crate::run::{Folder, GOOD, said, tool};
+use std::ffi::OsStr;
 use std::fs;
+use std::os::unix::ffi::OsStrExt;
 
 #[test]
 fn a_wrong_command_says_what_to_write() {
@@ -11,7 +13,9 @@ fn a_wrong_command_says_what_to_write() {
     fs::write(&file, "").expect("a file is written");
     let out = folder.path("notes");
     let missing = folder.path("missing.csv");
-    let cases: [(&[&dyn AsRef<std::ffi::OsStr>], &str); 12] = [
+    let cases: [(&[&dyn AsRef<std::ffi::OsStr>], &str); 14] = [
+        (&[&"render", &sheet, &"-o", &""], "no folder is named: write '-o DIR' behind the sheet"),
+        (&[&"render", &sheet, &"-o", &out, &"--quiet=1"], "--quiet takes no value"),
         (&[&"play"], "'play' is no command: write 'bleidhvan render SHEET -o DIR'"),
         (&[&"render"], "no sheet is named"),
         (&[&"render", &sheet], "no folder is named: write '-o DIR' behind the sheet"),
@@ -37,9 +41,33 @@ fn a_wrong_command_says_what_to_write() {
         assert!(error.starts_with("bleidhvan: ") && error.contains(message), "{error}");
     }
     assert!(!out.exists());
-    for words in [&["--help"][..], &["render", "-h"]] {
+    for words in [&["--help"][..], &["render", "-h"], &["help"]] {
         let words: Vec<&dyn AsRef<std::ffi::OsStr>> = words.iter().map(|w| w as _).collect();
         let (status, text, _) = said(&tool(&words));
         assert!(status == 0 && text.contains("Example:\n  bleidhvan render notes.csv -o notes"));
     }
+}
+
+#[test]
+fn the_version_is_told() {
+    for word in ["--version", "-V"] {
+        assert_eq!(said(&tool(&[&word])), (0, "bleidhvan 0.1.0\n".into(), String::new()));
+    }
+}
+
+#[test]
+fn paths_that_are_not_utf_8_are_rendered() {
+    let folder = Folder::new("paths");
+    let name = OsStr::from_bytes(b"caf\xe9.csv");
+    let sheet = folder.0.join(name);
+    fs::copy(folder.sheet(GOOD), &sheet).expect("the sheet is copied");
+    let out = folder.0.join(OsStr::from_bytes(b"not\xe9s"));
+    for sum in ["5 rendered", "0 rendered + 5 kept"] {
+        let (status, text, error) = said(&tool(&[&"render", &sheet, &"-o", &out]));
+        assert_eq!((status, &error[..]), (0, ""));
+        assert!(text.starts_with(&format!("5 notes ordered = {sum} + 0 refused\n")), "{text}");
+    }
+    let missing = folder.0.join(OsStr::from_bytes(b"\xe9"));
+    let (status, _, error) = said(&tool(&[&"render", &missing, &"-o", &out]));
+    assert!(status == 2 && error.contains("cannot be read"), "{error}");
 }

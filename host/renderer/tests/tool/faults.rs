@@ -29,6 +29,21 @@ fn a_note_that_cannot_be_written_fails_and_stops_no_other() {
 }
 
 #[test]
+fn a_note_that_fails_is_kept_where_it_is_whole() {
+    let folder = Folder::new("forced");
+    let out = folder.path("notes");
+    let sheet = folder.sheet("long,modal,A3,9,trigger,0.5,0.4,0.5,0.5\n");
+    assert_eq!(said(&tool_in("exec \"$0\" \"$@\"", &[&"render", &sheet, &"-o", &out])).0, 0);
+    let first = files(&out);
+    let script = "trap '' XFSZ; ulimit -f 2000; exec \"$0\" \"$@\"";
+    let output = tool_in(script, &[&"render", &sheet, &"-o", &out, &"--force"]);
+    let (status, text, _) = said(&output);
+    assert!(text.starts_with("1 notes ordered = 0 rendered + 1 kept + 0 refused\n"), "{text}");
+    assert_eq!(status, 0);
+    assert!(files(&out) == first);
+}
+
+#[test]
 fn a_signal_ends_a_run_with_all_that_is_whole() {
     for (name, status) in [("-INT", 130), ("-TERM", 143)] {
         let folder = Folder::new("signal");
@@ -44,6 +59,7 @@ fn a_signal_ends_a_run_with_all_that_is_whole() {
         let sum =
             format!("400 notes ordered = {rendered} rendered + 0 refused + {left} not rendered\n");
         assert!(text.starts_with(&sum), "{text}");
+        assert_eq!(error, "bleidhvan: stopped: the same command goes on from here\n");
         is_clean(&out);
     }
 }
