@@ -1,4 +1,5 @@
 # make render: proves and builds what is not built yet, and renders the example sheet to the folder rendered.
+# make install PREFIX=/usr/local: the tool, its man page and completions, and the header, library and pkg-config file for C; DESTDIR is put in front.
 # make test: the whole gate, whose last line is 'N passed, 0 failed'.
 # make bench: the speed of the leaves, of both voices, of the exported calls and of whole notes beside the Rust's, and of the wrapper's guard beside none, as ratios; PARTS="keyboard" times that alone.
 # make compare: two million blocks of random and extreme lists, in the exported bank and in the Rust.
@@ -6,7 +7,7 @@
 # make record: the oracle's answers for the program replay, written anew.
 # make mutants: two wrong programs for every function that has a contract, made by chance, each of which must be refused; some 40 minutes.
 
-.PHONY: render test bench compare replay record mutants
+.PHONY: render install test bench compare replay record mutants
 
 SHELL := bash
 .SHELLFLAGS := -o pipefail -c
@@ -24,6 +25,23 @@ $(libraries)/lib%.a: $(sources)
 render: $(libraries)/libbank_abi.a
 	@host/cargo build --quiet --release -p renderer
 	@host/target/release/bleidhvan render examples/sheet.csv -o rendered --jobs "$$(nproc)"
+
+PREFIX := /usr/local
+root = $(DESTDIR)$(PREFIX)
+share := host/renderer/share
+
+install: $(libraries)/libbank_abi.a
+	@host/cargo build --quiet --release -p renderer
+	@install -D -m 755 host/target/release/bleidhvan "$(root)/bin/bleidhvan"
+	@install -D -m 644 $(share)/bleidhvan.1 "$(root)/share/man/man1/bleidhvan.1"
+	@install -D -m 644 $(share)/bleidhvan.bash "$(root)/share/bash-completion/completions/bleidhvan"
+	@install -D -m 644 $(share)/_bleidhvan "$(root)/share/zsh/site-functions/_bleidhvan"
+	@install -D -m 644 $(share)/bleidhvan.fish "$(root)/share/fish/vendor_completions.d/bleidhvan.fish"
+	@install -D -m 644 crates/bank_abi/include/bleidhvan.h "$(root)/include/bleidhvan.h"
+	@install -D -m 644 $< "$(root)/lib/libbank_abi.a"
+	@mkdir -p "$(root)/lib/pkgconfig"
+	@sed 's|@PREFIX@|$(PREFIX)|' $(share)/bleidhvan.pc.in >"$(root)/lib/pkgconfig/bleidhvan.pc"
+	@echo "installed to $(root)"
 
 test:
 	@tests/gate

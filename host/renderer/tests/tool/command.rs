@@ -1,9 +1,11 @@
 //! What the command line says where it is wrong.
 
 use crate::run::{Folder, GOOD, said, tool};
+use std::collections::BTreeSet;
 use std::ffi::OsStr;
 use std::fs;
 use std::os::unix::ffi::OsStrExt;
+use std::path::Path;
 
 #[test]
 fn a_wrong_command_says_what_to_write() {
@@ -70,4 +72,26 @@ fn paths_that_are_not_utf_8_are_rendered() {
     let missing = folder.0.join(OsStr::from_bytes(b"\xe9"));
     let (status, _, error) = said(&tool(&[&"render", &missing, &"-o", &out]));
     assert!(status == 2 && error.contains("cannot be read"), "{error}");
+}
+
+/// The options of a text: words that begin with two dashes, the backslashes of a man page left out.
+fn options(text: &str) -> BTreeSet<String> {
+    let text = text.replace('\\', "");
+    let words = text.split(|c: char| !c.is_ascii_alphanumeric() && c != '-');
+    words.filter(|word| word.len() > 2 && word.starts_with("--")).map(str::to_string).collect()
+}
+
+#[test]
+fn the_page_and_the_completions_have_every_option() {
+    let (_, help, _) = said(&tool(&[&"--help"]));
+    let help = options(&help);
+    assert!(help.len() > 9, "{help:?}");
+    let share = Path::new(env!("CARGO_MANIFEST_DIR")).join("share");
+    for name in ["bleidhvan.1", "bleidhvan.bash", "_bleidhvan", "bleidhvan.fish"] {
+        let text = fs::read_to_string(share.join(name)).expect("the file is read");
+        let text = text.replace(" -l ", " --");
+        assert_eq!(options(&text), help, "{name}");
+    }
+    let page = fs::read_to_string(share.join("bleidhvan.1")).expect("the page is read");
+    assert!(page.contains(concat!("bleidhvan ", env!("CARGO_PKG_VERSION"))));
 }
