@@ -80,13 +80,13 @@ fn frees(before: StringAt, after: StringAt, counts: Counts) -> bool {
 mod tests {
     use super::{LONG, SHORT};
     use crate::chance::Chance;
+    use crate::format::FORMATS;
     use crate::known::Known;
-    use crate::render::Settings;
     use crate::run::Run;
+    use crate::settings::{Level, Settings};
     use crate::sheet::{COLUMNS, Sheet};
     use crate::stop::Stop;
-    use crate::tests::Scratch;
-    use crate::wav::Format;
+    use crate::tests::{SETTINGS, Scratch};
     use std::collections::BTreeMap;
     use std::fs;
 
@@ -116,8 +116,10 @@ mod tests {
             Settings {
                 seed: self.below(1 << 31) as u32,
                 rate: self.of(&[8000, 44100, 48000, 96000, 192000]),
-                format: self.of(&[Format::Float32, Format::Int16]),
+                format: self.of(&FORMATS),
                 aux: self.below(2) == 0,
+                level: self.of(&[Level::Gain(0.0), Level::Gain(-3.0), Level::Peak(-1.0)]),
+                fade: self.of(&[0.0, 10.0]),
                 longest: LONG,
             }
         }
@@ -128,6 +130,10 @@ mod tests {
             let play = self.of(&["trigger", "trigger", "sustain"]);
             let hertz = self.f0() * f64::from(rate);
             let seconds = self.frames(rate) as f64 / f64::from(rate);
+            let seconds = match (play, self.below(40)) {
+                ("trigger", 0) => "ring".into(),
+                _ => seconds.to_string(),
+            };
             let accent = self.knob(&[0.0, 0.8, 1.0]);
             let structure = match self.below(3) {
                 0 => 0.235 + 0.03 * self.part(),
@@ -191,14 +197,17 @@ mod tests {
 
     #[test]
     fn a_string_that_grows_to_nan_has_the_bits_of_short_blocks() {
-        let settings =
-            Settings { seed: 0, rate: 8000, format: Format::Float32, aux: true, longest: LONG };
+        let settings = Settings { rate: 8000, aux: true, longest: LONG, ..SETTINGS };
         let rows = "struck,string,238hz,560,trigger,1,0.24,1,1\nbowed,string,238hz,530,sustain,1,0.24,1,1\n";
         let heard = files(rows, &settings);
         for name in ["struck.wav", "bowed.wav"] {
-            let (samples, _) = heard[name][58..].as_chunks();
+            let bytes = &heard[name];
+            let data = bytes.windows(4).position(|word| word == b"data").expect("data");
+            let (samples, _) = bytes[data + 8..].as_chunks();
             assert!(samples.iter().any(|bytes| f32::from_le_bytes(*bytes).is_nan()), "{name}");
         }
+        let catalogue = String::from_utf8_lossy(&heard["catalogue.csv"]).into_owned();
+        assert_eq!(catalogue.matches(" samples are no numbers: ").count(), 2);
         hold(rows, &settings);
     }
 }

@@ -2,6 +2,9 @@
 
 use sha2::{Digest, Sha256};
 use std::fmt;
+use std::fs::File;
+use std::io::{self, Read};
+use std::path::Path;
 
 /// The sum of bytes.
 #[derive(Debug, Clone, Copy, PartialEq, Eq)]
@@ -18,6 +21,19 @@ impl Summing {
 
     pub fn end(self) -> Checksum {
         Checksum(self.0.finalize().into())
+    }
+}
+
+/// The sum of a file.
+pub fn of_file(path: &Path) -> io::Result<Checksum> {
+    let mut file = File::open(path)?;
+    let mut sum = Summing::default();
+    let mut block = vec![0; 1 << 16];
+    loop {
+        match file.read(&mut block)? {
+            0 => return Ok(sum.end()),
+            n => sum.add(&block[..n]),
+        }
     }
 }
 

@@ -1,8 +1,10 @@
 //! The names of files: which a note may take.
 
 use crate::catalogue::file_of;
+use crate::checksum;
 use crate::folder::Folder;
-use crate::known::{Known, checksum};
+use crate::format::Format;
+use crate::known::Known;
 use crate::order::Order;
 use crate::outcome::{Outcome, Rendered};
 use std::fs;
@@ -13,9 +15,10 @@ pub fn in_the_way(
     rendered: &Rendered,
     folder: &Folder,
     known: &Known,
+    format: Format,
     is_forced: bool,
 ) -> Option<Outcome> {
-    let file = file_of(order.name());
+    let file = file_of(order.name(), format);
     let path = folder.file(&file);
     if fs::symlink_metadata(&path).is_err() {
         return None;
@@ -28,7 +31,7 @@ pub fn in_the_way(
     // The same file as would be written is as good as one that is known.
     let is_ours = is_forced
         || known.has(&file)
-        || checksum(&path).is_ok_and(|checksum| checksum == rendered.checksum);
+        || checksum::of_file(&path).is_ok_and(|checksum| checksum == rendered.checksum);
     (!is_ours).then(|| {
         Outcome::Failed(format!(
             "{file} is there, and no run wrote it: move it away, or render with --force"

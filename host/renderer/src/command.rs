@@ -1,8 +1,8 @@
 //! The command line.
 
 use crate::blocks::LONG;
-use crate::render::Settings;
-use crate::wav::Format;
+use crate::format::Format;
+use crate::settings::{Level, Settings};
 use lexopt::{Arg, Parser};
 use std::ffi::{OsStr, OsString};
 use std::path::PathBuf;
@@ -10,34 +10,45 @@ use std::path::PathBuf;
 pub const HELP: &str = "Renders notes with string and modal voices whose every sample is proved.
 
 Usage: bleidhvan render SHEET -o DIR [options]
+       bleidhvan verify DIR [--again] [--jobs N]
        bleidhvan help
 
 SHEET is a CSV file with a header ('-' reads it from standard input), one note a line:
   name        the name of the note and of its file, which no other note has
   kind        string or modal
   note        a name such as A3, a number such as 57, or a frequency such as 220hz
-  seconds     how long the note is
+  seconds     how long the note is, or ring: until it has died away by 90 dB, at most 60 seconds
   play        trigger (struck once) or sustain (excited all along)
   accent, structure, brightness, damping
               the knobs, each from 0 to 1
 
-DIR gets one WAV file a note, catalogue.csv with a line for every note, what became of it, what made
-it and the SHA-256 of its file, and index.html, the catalogue as a page; index-2.html and so on have
-the notes behind the first 250.
+DIR gets one sound file a note; catalogue.csv with a line for every note, what became of it, its
+levels, what made it and the SHA-256 of its file; index.html, the catalogue as a page, and index-2.html
+and so on for the notes behind the first 250; and notes.sfz, the notes as an instrument for samplers.
 
-Options:
+Options of render:
   -o, --output DIR
               the folder to write to; it is made where it is not there
   --seed N    the seed of the noise, 0 to 4294967295 (0)
   --rate HZ   the sample rate, 8000 to 192000 (48000)
-  --bits N    32 for float samples, 16 for whole ones (32)
+  --format F  wav or flac (wav)
+  --bits N    32 for float samples, 24 or 16 for whole ones (32; 24 for flac); whole samples are
+              dithered by a triangle of one step, the same at every run, but for silence
   --aux       the aux output as a second channel
+  --gain DB   raises (or lowers) the voice's own level, -100 to 100 (0)
+  --normalise peak=DB or loudness=LUFS
+              brings each note to a level from -100 to 0, as peak=-1 or loudness=-18
+  --fade MS   fades the end of a note, 0 to 10000 (10); 0 leaves the voice's own samples
   -j, --jobs N
               how many notes are rendered at once, 1 to 256, or as many as there is memory for (1)
   --first-line N
               where SHEET is a part of a whole sheet, the whole one's line of its line 2 (2)
   --force     renders every note anew, and writes over files that no run wrote
   -q, --quiet no progress, no list and no sum
+
+verify looks that every file of DIR's catalogue is there and is the one that was rendered:
+  --again     renders each anew and compares
+
   -h, --help  this text
   -V, --version
               the version
@@ -48,20 +59,22 @@ Example:
   bleidhvan render notes.csv -o notes --jobs 4
 
 One line is one note: a cell holds no line break, and a line whose quote does not end is refused by itself.
-Refused notes are listed with their lines, the first 20 here and all in catalogue.csv.
+Refused notes, and those that clip, are empty or silent, are listed with their lines, the first 20 here
+and all in catalogue.csv.
 
 A note whose row, settings and file are as an earlier run left them is kept. A file that an earlier run
 rendered, and this sheet does not, is removed, if it is as it was rendered; no other file is touched.
 A note that the machine could not do is failed, not refused. Ctrl-C and SIGTERM end a run with all that
 is whole, and a catalogue that says what was not rendered; a second one ends it at once.
 
-Exit status: 0 every note was rendered; 1 some were refused, or the sheet orders none;
-2 the command or the sheet was wrong, or the folder could not be written; 3 some notes failed;
-130 or 143 the run was stopped by SIGINT or SIGTERM.";
+Exit status: 0 every note was rendered, or is whole; 1 some were refused, or are not whole, or the
+sheet orders none; 2 the command or the sheet was wrong, or the folder could not be written or read;
+3 some notes failed; 130 or 143 the run was stopped by SIGINT or SIGTERM.";
 
 /// What the command line asks for.
 pub enum Command {
     Render(Box<Asked>),
+    Verify(Verifying),
     Help,
     Version,
 }
@@ -71,6 +84,9 @@ pub struct Asked {
     pub sheet: PathBuf,
     pub folder: PathBuf,
     pub settings: Settings,
+    is_flac: bool,
+    bits: Option<u32>,
+    is_gained: bool,
     pub jobs: usize,
     /// The line of the whole sheet that line 2 of this part of it is.
     pub first_line: usize,
@@ -78,38 +94,93 @@ pub struct Asked {
     pub is_quiet: bool,
 }
 
+/// What a folder is looked through for.
+pub struct Verifying {
+    pub folder: PathBuf,
+    pub jobs: usize,
+    /// Whether each note is rendered anew.
+    pub is_again: bool,
+}
+
 const USAGE: &str = "write 'bleidhvan render SHEET -o DIR'";
 
 /// Reads the command line behind the tool's name, or says what to write instead.
 pub fn read(words: Vec<OsString>) -> Result<Command, String> {
     let mut words = Parser::from_args(words);
-    let mut asked = None;
-    while let Some(word) = words.next().map_err(|error| wrong(&error))? {
-        match (word, &mut asked) {
-            (Arg::Short('h') | Arg::Long("help"), _) => return Ok(Command::Help),
-            (Arg::Short('V') | Arg::Long("version"), _) => return Ok(Command::Version),
-            (Arg::Value(word), None) => match word.to_str() {
-                Some("render") => asked = Some(Asked::new()),
-                Some("help") => return Ok(Command::Help),
-                _ => return Err(format!("'{}' is no command: {USAGE}", word.display())),
-            },
-            (_, None) => return Err(USAGE.into()),
-            (Arg::Value(sheet), Some(asked)) => asked.sheet(sheet)?,
-            (Arg::Short(letter), Some(asked)) => asked.option(&format!("-{letter}"), &mut words)?,
-            (Arg::Long(name), Some(asked)) => {
-                let name = format!("--{name}");
-                asked.option(&name, &mut words)?;
-            }
+    match words.next().map_err(|error| wrong(&error))? {
+        Some(Arg::Short('h') | Arg::Long("help")) => Ok(Command::Help),
+        Some(Arg::Short('V') | Arg::Long("version")) => Ok(Command::Version),
+        Some(Arg::Value(word)) => match word.to_str() {
+            Some("render") => render(words),
+            Some("verify") => verify(words),
+            Some("help") => Ok(Command::Help),
+            _ => Err(format!("'{}' is no command: {USAGE}", word.display())),
+        },
+        _ => Err(USAGE.into()),
+    }
+}
+
+/// A word behind a command: an option by its name, or what it is about.
+enum Word {
+    Option(String),
+    Value(OsString),
+}
+
+/// The next word, none at the end; the help and the version where they are asked for.
+fn next(words: &mut Parser) -> Result<Option<Word>, Result<Command, String>> {
+    Ok(match words.next().map_err(|error| Err(wrong(&error)))? {
+        None => None,
+        Some(Arg::Short('h') | Arg::Long("help")) => return Err(Ok(Command::Help)),
+        Some(Arg::Short('V') | Arg::Long("version")) => return Err(Ok(Command::Version)),
+        Some(Arg::Short(letter)) => Some(Word::Option(format!("-{letter}"))),
+        Some(Arg::Long(name)) => Some(Word::Option(format!("--{name}"))),
+        Some(Arg::Value(value)) => Some(Word::Value(value)),
+    })
+}
+
+fn render(mut words: Parser) -> Result<Command, String> {
+    let mut asked = Asked::new();
+    loop {
+        match next(&mut words) {
+            Ok(None) => break,
+            Ok(Some(Word::Option(name))) => asked.option(&name, &mut words)?,
+            Ok(Some(Word::Value(sheet))) => asked.sheet(sheet)?,
+            Err(other) => return other,
         }
     }
-    let asked = asked.ok_or(USAGE)?;
     if asked.sheet.as_os_str().is_empty() {
         return Err(format!("no sheet is named: {USAGE}"));
     }
     if asked.folder.as_os_str().is_empty() {
         return Err("no folder is named: write '-o DIR' behind the sheet".into());
     }
+    asked.settle()?;
     Ok(Command::Render(Box::new(asked)))
+}
+
+fn verify(mut words: Parser) -> Result<Command, String> {
+    let mut asked = Verifying { folder: PathBuf::new(), jobs: 1, is_again: false };
+    loop {
+        match next(&mut words) {
+            Ok(None) => break,
+            Ok(Some(Word::Option(name))) => match &name[..] {
+                "--again" => asked.is_again = true,
+                "-j" | "--jobs" => asked.jobs = jobs(&name, &mut words)?,
+                _ => return Err(format!("{name} is no option of verify: write --again or --jobs")),
+            },
+            Ok(Some(Word::Value(folder))) if asked.folder.as_os_str().is_empty() => {
+                asked.folder = folder.into();
+            }
+            Ok(Some(Word::Value(folder))) => {
+                return Err(format!("'{}' is one folder too many", folder.display()));
+            }
+            Err(other) => return other,
+        }
+    }
+    if asked.folder.as_os_str().is_empty() {
+        return Err("no folder is named: write 'bleidhvan verify DIR'".into());
+    }
+    Ok(Command::Verify(asked))
 }
 
 /// What to write where the words cannot be read.
@@ -122,11 +193,15 @@ fn wrong(error: &lexopt::Error) -> String {
 
 impl Asked {
     fn new() -> Self {
-        let format = Format::Float32;
+        let (format, level) = (Format::Float32, Level::Gain(0.0));
+        let (rate, longest) = (48000, LONG);
         Asked {
             sheet: PathBuf::new(),
             folder: PathBuf::new(),
-            settings: Settings { seed: 0, rate: 48000, format, aux: false, longest: LONG },
+            settings: Settings { seed: 0, rate, format, aux: false, level, fade: 10.0, longest },
+            is_flac: false,
+            bits: None,
+            is_gained: false,
             jobs: 1,
             first_line: 2,
             is_forced: false,
@@ -144,41 +219,106 @@ impl Asked {
     }
 
     fn option(&mut self, option: &str, words: &mut Parser) -> Result<(), String> {
-        let mut value = |example: &str| {
-            let needs = format!("{option} needs a value: {option} {example}");
-            words.value().map_err(|_| needs)
-        };
+        let settings = &mut self.settings;
         match option {
-            "-o" | "--output" => self.folder = value("DIR")?.into(),
-            "--seed" => self.settings.seed = number(option, &value("33")?, 0, u32::MAX)?,
-            "--rate" => self.settings.rate = number(option, &value("48000")?, 8000, 192000)?,
-            "-j" | "--jobs" => self.jobs = number(option, &value("4")?, 1, 256)? as usize,
+            "-o" | "--output" => self.folder = value(option, "DIR", words)?.into(),
+            "--seed" => settings.seed = whole(option, "33", words, 0, u32::MAX)?,
+            "--rate" => settings.rate = whole(option, "48000", words, 8000, 192000)?,
+            "-j" | "--jobs" => self.jobs = jobs(option, words)?,
             "--first-line" => {
-                self.first_line = number(option, &value("1002")?, 2, u32::MAX)? as usize;
+                self.first_line = whole(option, "1002", words, 2, u32::MAX)? as usize;
             }
-            "--bits" => self.settings.format = format_of(&value("16")?)?,
-            "--aux" => self.settings.aux = true,
+            "--format" => self.is_flac = is_flac(&value(option, "wav", words)?)?,
+            "--bits" => self.bits = Some(bits(&value(option, "24", words)?)?),
+            "--gain" => {
+                settings.level = Level::Gain(number(option, "-6", words, -100.0, 100.0)?);
+                self.is_gained = true;
+            }
+            "--normalise" => settings.level = level(&value(option, "peak=-1", words)?)?,
+            "--fade" => settings.fade = number(option, "10", words, 0.0, 10000.0)?,
+            "--aux" => settings.aux = true,
             "--force" => self.is_forced = true,
             "-q" | "--quiet" => self.is_quiet = true,
             _ => return Err(format!("{option} is no option: 'bleidhvan --help' lists them")),
+        }
+        if self.is_gained && !matches!(self.settings.level, Level::Gain(_)) {
+            return Err("--gain and --normalise do not go together: write one of them".into());
+        }
+        Ok(())
+    }
+
+    /// The format, by the options together.
+    fn settle(&mut self) -> Result<(), String> {
+        let bits = self.bits.unwrap_or(if self.is_flac { 24 } else { 32 });
+        let format = Format::of(self.is_flac, bits);
+        self.settings.format =
+            format.ok_or("a FLAC file holds whole samples: write --bits 24 or --bits 16")?;
+        let rate = self.settings.rate;
+        if self.is_flac && rate > 65535 && !rate.is_multiple_of(10) {
+            return Err(format!(
+                "--rate is '{rate}', and in a FLAC file must be a multiple of 10 above 65535"
+            ));
         }
         Ok(())
     }
 }
 
-fn number(option: &str, value: &OsStr, low: u32, high: u32) -> Result<u32, String> {
-    let text = value.display();
+/// The value of an option, or an example of one.
+fn value(option: &str, example: &str, words: &mut Parser) -> Result<OsString, String> {
+    words.value().map_err(|_| format!("{option} needs a value: {option} {example}"))
+}
+
+fn jobs(option: &str, words: &mut Parser) -> Result<usize, String> {
+    Ok(whole(option, "4", words, 1, 256)? as usize)
+}
+
+fn whole(
+    option: &str,
+    example: &str,
+    words: &mut Parser,
+    low: u32,
+    high: u32,
+) -> Result<u32, String> {
+    let value = value(option, example, words)?;
     let number = value.to_str().and_then(|text| text.parse().ok());
     let number = number.filter(|n| (low..=high).contains(n));
+    let text = value.display();
     number.ok_or(format!("{option} is '{text}', and must be a whole number from {low} to {high}"))
 }
 
-fn format_of(value: &OsStr) -> Result<Format, String> {
+fn number(
+    option: &str,
+    example: &str,
+    words: &mut Parser,
+    low: f64,
+    high: f64,
+) -> Result<f64, String> {
+    let value = value(option, example, words)?;
+    let number = value.to_str().and_then(|text| text.parse().ok());
+    let number = number.filter(|n| (low..=high).contains(n));
+    let text = value.display();
+    number.ok_or(format!("{option} is '{text}', and must be a number from {low} to {high}"))
+}
+
+fn is_flac(value: &OsStr) -> Result<bool, String> {
     match value.to_str() {
-        Some("32") => Ok(Format::Float32),
-        Some("16") => Ok(Format::Int16),
-        _ => Err(format!("--bits is '{}', and must be 32 or 16", value.display())),
+        Some("wav") => Ok(false),
+        Some("flac") => Ok(true),
+        _ => Err(format!("--format is '{}', and must be wav or flac", value.display())),
     }
+}
+
+fn bits(value: &OsStr) -> Result<u32, String> {
+    let bits = value.to_str().and_then(|text| text.parse().ok());
+    let bits = bits.filter(|bits| [32, 24, 16].contains(bits));
+    bits.ok_or(format!("--bits is '{}', and must be 32, 24 or 16", value.display()))
+}
+
+fn level(value: &OsStr) -> Result<Level, String> {
+    value.to_str().and_then(Level::read).ok_or(format!(
+        "--normalise is '{}', and must be peak=DB or loudness=LUFS from -100 to 0, as peak=-1",
+        value.display()
+    ))
 }
 
 #[cfg(test)]
@@ -219,6 +359,14 @@ mod tests {
             ("render a.csv -o b -x", "-x is no option: 'bleidhvan --help' lists them"),
             ("render a.csv -o b --seed=-1", "--seed is '-1', and must be a whole number from 0"),
             ("render a.csv --output=", "no folder is named"),
+            ("render a.csv -o b --bits 32 --format flac", "a FLAC file holds whole samples"),
+            ("render a.csv -o b --format=flac --rate 96001", "--rate is '96001', and in a FLAC"),
+            ("render a.csv -o b --normalise peak=3", "--normalise is 'peak=3', and must be"),
+            ("render a.csv -o b --gain 3 --normalise peak=-1", "--gain and --normalise do not go"),
+            ("render a.csv -o b --fade nan", "--fade is 'nan', and must be a number from 0"),
+            ("verify", "no folder is named: write 'bleidhvan verify DIR'"),
+            ("verify a b", "'b' is one folder too many"),
+            ("verify a --force", "--force is no option of verify"),
             ("--seed 3 render", "write 'bleidhvan render SHEET -o DIR'"),
             ("play", "'play' is no command: write"),
         ];

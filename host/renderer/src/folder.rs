@@ -5,6 +5,7 @@ use crate::known::Known;
 use crate::page;
 use crate::part::{PREFIX, SUFFIX};
 use crate::report::complain;
+use crate::sfz;
 use std::fs::{self, File, TryLockError};
 use std::io::{self, ErrorKind, Read};
 use std::os::unix::fs::MetadataExt;
@@ -69,6 +70,7 @@ impl Folder {
             return Err(format!("the sheet's name begins with {PREFIX}, as parts do: rename it"));
         }
         self.look_at(catalogue::FILE, catalogue::is_ours)?;
+        self.look_at(sfz::FILE, sfz::is_ours)?;
         (1..=pages).try_for_each(|number| self.look_at(&page::file(number), page::is_ours))
     }
 

@@ -1,18 +1,18 @@
 //! What earlier runs wrote to a folder, as their catalogues say.
 
 use crate::catalogue::{self, Listed};
-use crate::checksum::{Checksum, Summing};
+use crate::checksum::{self, Checksum};
 use crate::folder::{Folder, identity};
 use crate::lines::Lines;
 use crate::name::key;
 use crate::outcome::Rendered;
-use crate::render::Settings;
+use crate::settings::Settings;
+use crate::sndfile::Sound;
 use crate::stop::Stop;
-use crate::wav;
 use crate::wave::Wave;
 use std::collections::HashMap;
 use std::fs::{self, File};
-use std::io::{self, Read};
+use std::io;
 use std::path::Path;
 
 /// The files that earlier runs wrote, each with what the catalogues list of it.
@@ -63,8 +63,12 @@ impl Known {
         stop: &Stop,
     ) -> Option<Rendered> {
         let listed = self.listed(file, made)?;
-        let (checksum, wave) = heard(&folder.file(file), listed.frames, settings, stop).ok()??;
-        (checksum == listed.checksum).then(|| listed.rendered(Some(wave)))
+        let path = folder.file(file);
+        if checksum::of_file(&path).ok()? != listed.checksum {
+            return None;
+        }
+        let wave = heard(&path, listed.frames, settings, stop).ok()??;
+        Some(listed.rendered(Some(wave)))
     }
 
     /// A note that an earlier run made by the same, and whose file a stopped run has no time to look into.
@@ -86,7 +90,8 @@ impl Known {
                 continue;
             }
             let is_ours = !folder.is_sheet(&path)
-                && checksum(&path).is_ok_and(|sum| listed.iter().any(|l| l.checksum == sum));
+                && checksum::of_file(&path)
+                    .is_ok_and(|sum| listed.iter().any(|l| l.checksum == sum));
             if is_ours && fs::remove_file(&path).is_ok() {
                 stale.removed += 1;
             } else {
@@ -98,53 +103,23 @@ impl Known {
     }
 }
 
-/// The checksum of a file.
-pub fn checksum(path: &Path) -> io::Result<Checksum> {
-    let mut sum = Summing::default();
-    blocks(&mut File::open(path)?, |block| sum.add(block))?;
-    Ok(sum.end())
-}
-
-/// Reads what is left of a file, block by block, each but the last of whole frames.
-fn blocks(file: &mut impl Read, mut each: impl FnMut(&[u8])) -> io::Result<()> {
-    let mut block = vec![0; 1 << 15];
-    loop {
-        let mut n = 0;
-        while n < block.len() {
-            match file.read(&mut block[n..])? {
-                0 => break,
-                more => n += more,
-            }
-        }
-        each(&block[..n]);
-        if n < block.len() {
-            return Ok(());
-        }
+/// The waveform of a note's file of so many frames, none where the run is stopped.
+fn heard(path: &Path, frames: u64, settings: &Settings, stop: &Stop) -> io::Result<Option<Wave>> {
+    let channels = settings.channels();
+    let mut wave = Wave::new(frames);
+    if frames == 0 {
+        return Ok(Some(wave));
     }
-}
-
-/// The checksum of a note's file and its waveform, none where it has another length or the run is stopped.
-fn heard(
-    path: &Path,
-    frames: u64,
-    settings: &Settings,
-    stop: &Stop,
-) -> io::Result<Option<(Checksum, Wave)>> {
-    let (format, channels) = (settings.format, settings.channels());
-    let mut header = vec![0; format.header_bytes() as usize];
-    let data = frames * u64::from(format.bytes() * channels);
-    let mut file = File::open(path)?;
-    if file.metadata()?.len() != header.len() as u64 + data {
-        return Ok(None);
-    }
-    file.read_exact(&mut header)?;
-    let (mut sum, mut wave) = (Summing::default(), Wave::new(frames));
-    sum.add(&header);
-    blocks(&mut file.take(data), |block| {
-        if !stop.is_asked() {
-            sum.add(block);
-            wave.add(&wav::samples(block, format, channels as usize));
+    let mut sound = Sound::read(File::open(path)?, settings.format, channels)?;
+    let mut left = frames as usize;
+    while left > 0 {
+        let samples = sound.next(left.min(1 << 13));
+        if samples.is_empty() || stop.is_asked() {
+            return Ok(None);
         }
-    })?;
-    Ok((!stop.is_asked()).then(|| (sum.end(), wave)))
+        let first: Vec<f32> = samples.iter().step_by(channels).copied().collect();
+        left -= first.len();
+        wave.add(&first);
+    }
+    Ok(Some(wave))
 }

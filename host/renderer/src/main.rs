@@ -10,13 +10,16 @@ mod checksum;
 mod claim;
 mod command;
 mod folder;
-mod journal;
+mod format;
 mod known;
+mod levels;
 mod lines;
+mod loudness;
 mod name;
 mod note;
 mod order;
 mod outcome;
+mod output;
 mod page;
 mod pages;
 mod part;
@@ -28,11 +31,15 @@ mod render;
 mod report;
 mod room;
 mod run;
+mod settings;
+mod sfz;
+mod shape;
 mod sheet;
+mod sndfile;
 mod stop;
 #[cfg(test)]
 mod tests;
-mod wav;
+mod verify;
 mod wave;
 mod work;
 
@@ -63,6 +70,11 @@ fn main() -> ExitCode {
     }
     let status = command::read(words).and_then(|command| match command {
         Command::Render(asked) => render_sheet(&asked),
+        Command::Verify(asked) => {
+            let stop = listen()?;
+            let is_whole = verify::verify(&asked, &stop)?;
+            Ok(if stop.is_asked() { stop.status() } else { (!is_whole).into() })
+        }
         Command::Help => {
             say(HELP);
             Ok(0)
@@ -92,10 +104,9 @@ fn render_sheet(asked: &Asked) -> Result<u8, String> {
     }
     let folder = Folder::hold(&asked.folder, (asked.sheet.clone(), read))?;
     folder.look(ordered.div_ceil(page::ROWS))?;
-    let stop = Stop::listen().map_err(|error| format!("signals cannot be listened to: {error}"))?;
-    hush_workers();
+    let stop = listen()?;
     let unwritable = |error: io::Error| match error.kind() {
-        ErrorKind::OutOfMemory => "there is no memory for one job: give it some 20 MB".into(),
+        ErrorKind::OutOfMemory => "there is no memory for one job: give it some 40 MB".into(),
         ErrorKind::StorageFull | ErrorKind::QuotaExceeded => {
             let folder = asked.folder.display();
             format!(
@@ -128,6 +139,12 @@ fn render_sheet(asked: &Asked) -> Result<u8, String> {
         (_, 1..) => REFUSED,
         _ => 0,
     })
+}
+
+/// Listens to signals, and lets no worker speak by itself.
+fn listen() -> Result<Stop, String> {
+    hush_workers();
+    Stop::listen().map_err(|error| format!("signals cannot be listened to: {error}"))
 }
 
 /// Lets a worker that halts say so in its note's outcome alone.

@@ -4,13 +4,16 @@ use crate::pitch::{self, FORMS, hertz};
 use crate::sheet::Row;
 use bleidhvan::{Bank, Kind, Knob, Knobs, Refusal};
 
-/// The most seconds of a note.
+/// The most seconds of a note, and of one that rings until it has died away.
 pub const MOST_SECONDS: f64 = 3600.0;
+pub const RING_SECONDS: f64 = 60.0;
 
 #[derive(Debug, Clone, Copy)]
 pub struct Note {
     pub kind: Kind,
-    pub seconds: f64,
+    /// None where it rings until it has died away.
+    pub seconds: Option<f64>,
+    pub hertz: f64,
     /// The knobs of the first block; a strike is in that block alone.
     pub knobs: Knobs,
 }
@@ -84,12 +87,17 @@ pub fn note_of(row: &Row, rate: u32) -> Result<Note, Fault> {
         brightness: number("brightness", brightness)?,
         damping: number("damping", damping)?,
     };
-    Ok(Note { kind, seconds: seconds_of(seconds)?, knobs })
+    Ok(Note { kind, seconds: seconds_of(seconds, sustain)?, hertz, knobs })
 }
 
-fn seconds_of(cell: &str) -> Result<f64, Fault> {
+fn seconds_of(cell: &str, sustain: bool) -> Result<Option<f64>, Fault> {
+    if cell.trim().eq_ignore_ascii_case("ring") {
+        let range = "a number from 0 to 3600: a note that is excited all along rings on";
+        return if sustain { Err(Fault::cell("seconds", cell, range)) } else { Ok(None) };
+    }
     let seconds = cell.trim().parse().ok().filter(|s| (0.0..=MOST_SECONDS).contains(s));
-    seconds.ok_or_else(|| Fault::cell("seconds", cell, "a number from 0 to 3600"))
+    let range = "a number from 0 to 3600, or ring for a struck note";
+    seconds.map(Some).ok_or_else(|| Fault::cell("seconds", cell, range))
 }
 
 /// A number of any size: the bank says which are accepted.

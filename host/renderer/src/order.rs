@@ -2,9 +2,8 @@
 
 use crate::name::{Names, name_of};
 use crate::note::{Fault, Note, ask, note_of};
-use crate::render::Settings;
+use crate::settings::Settings;
 use crate::sheet::{Row, Sheet};
-use crate::wav::Wav;
 use bleidhvan::Bank;
 
 /// A row, and the note that it orders or why it is refused.
@@ -42,8 +41,10 @@ impl<'a> Orders<'a> {
         let rate = self.settings.rate;
         let note = note_of(row, rate)?;
         ask(&mut self.bank, &note, rate).map_err(|refusal| Fault::refusal(refusal, row, rate))?;
-        if self.settings.frames(&note) > Wav::most_frames(&self.settings) {
-            return Err(Fault::row("the note is longer than a WAV file can be".into()));
+        if self.settings.frames(&note) > self.settings.most_frames() {
+            let reason =
+                "the note is longer than a WAV file can be: write fewer seconds, or --format flac";
+            return Err(Fault::row(reason.into()));
         }
         self.names.take(name, row.line)?;
         Ok(note)

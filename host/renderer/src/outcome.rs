@@ -1,6 +1,7 @@
 //! What became of an ordered note.
 
 use crate::checksum::Checksum;
+use crate::levels::Told;
 use crate::note::{Fault, clipped};
 use crate::order::Order;
 use crate::part::Whole;
@@ -26,6 +27,7 @@ pub struct Rendered {
     pub burst: u64,
     pub dust: u64,
     pub dispersion: u64,
+    pub told: Told,
     /// None where a run was stopped before it could look into a file of an earlier one.
     pub wave: Option<Wave>,
     pub checksum: Checksum,
@@ -48,7 +50,7 @@ impl Outcome {
     }
 }
 
-/// How many notes there were of each outcome, and the first that were refused or failed in words.
+/// How many notes there were of each outcome, and the first that were refused, failed or warned of in words.
 #[derive(Debug, Default, Clone)]
 pub struct Sum {
     pub ordered: usize,
@@ -57,34 +59,50 @@ pub struct Sum {
     pub refused: usize,
     pub failed: usize,
     pub not_rendered: usize,
-    pub told: Vec<String>,
+    /// Of those rendered or kept.
+    pub warned: usize,
+    /// The refused and failed, and those warned of.
+    pub told: [Vec<String>; 2],
 }
 
-/// The notes that are told on the terminal.
+/// The notes of a list that are told on the terminal.
 pub const TOLD: usize = 20;
 
 impl Sum {
     pub fn add(&mut self, order: &Order, outcome: &Outcome) {
         self.ordered += 1;
         match outcome {
-            Outcome::Rendered(_) => self.rendered += 1,
-            Outcome::Kept(_) => self.kept += 1,
+            Outcome::Rendered(rendered) => {
+                self.rendered += 1;
+                self.warn(order, rendered);
+            }
+            Outcome::Kept(kept) => {
+                self.kept += 1;
+                self.warn(order, kept);
+            }
             Outcome::Refused(fault) => {
                 self.refused += 1;
-                self.tell("refused", order, &fault.reason);
+                self.tell(0, "refused", order, &fault.reason);
             }
             Outcome::Failed(reason) => {
                 self.failed += 1;
-                self.tell("failed", order, reason);
+                self.tell(0, "failed", order, reason);
             }
             Outcome::NotRendered => self.not_rendered += 1,
         }
     }
 
-    fn tell(&mut self, status: &str, order: &Order, reason: &str) {
-        if self.told.len() < TOLD {
+    fn warn(&mut self, order: &Order, rendered: &Rendered) {
+        if !rendered.told.warning.is_empty() {
+            self.warned += 1;
+            self.tell(1, "warning", order, &rendered.told.warning);
+        }
+    }
+
+    fn tell(&mut self, list: usize, status: &str, order: &Order, reason: &str) {
+        if self.told[list].len() < TOLD {
             let (line, name) = (order.row.line, order.name());
-            self.told.push(format!("{status}: line {line}, {name}: {reason}"));
+            self.told[list].push(format!("{status}: line {line}, {name}: {reason}"));
         }
     }
 

@@ -1,8 +1,10 @@
 //! The catalogue as pages: no network and no script.
 
 use crate::catalogue::file_of;
+use crate::levels::Told;
 use crate::order::Order;
 use crate::outcome::{Outcome, Rendered, Sum};
+use crate::settings::Settings;
 use crate::sheet::COLUMNS as NAMES;
 use crate::wave::COLUMNS;
 
@@ -53,7 +55,7 @@ pub const SUM_AT: u64 = HEAD.len() as u64;
 pub const FRAME: usize = HEAD.len() + SUM + 1500;
 
 /// The bytes that a note's row may have beyond one that was not rendered: its waveform and its player, or a reason.
-pub const MORE: usize = COLUMNS * 18 + 1500;
+pub const MORE: usize = COLUMNS * 18 + 2000;
 
 /// The file of a page.
 pub fn file(number: usize) -> String {
@@ -100,7 +102,7 @@ fn links(number: usize, pages: usize) -> String {
 }
 
 /// The lines of a note.
-pub fn row(order: &Order, outcome: &Outcome) -> String {
+pub fn row(order: &Order, outcome: &Outcome, settings: &Settings) -> String {
     let (row, name) = (&order.row, escaped(order.name()));
     let [_, kind, note, seconds, play, ..] = row.cells.each_ref().map(|text| escaped(text.trim()));
     let knobs: Vec<String> = NAMES.iter().zip(&row.cells).skip(5).map(knob).collect();
@@ -114,10 +116,10 @@ pub fn row(order: &Order, outcome: &Outcome) -> String {
     };
     match outcome {
         Outcome::Rendered(rendered) | Outcome::Kept(rendered) => {
-            let file = escaped(&url(&file_of(order.name())));
+            let file = escaped(&url(&file_of(order.name(), settings.format)));
+            let (wave, levels) = (waveform(rendered, &name), levels(&rendered.told));
             format!(
-                "<tr><th>{name}<td><audio controls preload=\"none\" src=\"{file}\"></audio><td>{}<td class=\"knobs\">{knobs}\n",
-                waveform(rendered, &name)
+                "<tr><th>{name}<td><audio controls preload=\"none\" src=\"{file}\"></audio><td>{wave}<td class=\"knobs\">{knobs}{levels}\n"
             )
         }
         Outcome::Refused(fault) => {
@@ -125,6 +127,24 @@ pub fn row(order: &Order, outcome: &Outcome) -> String {
         }
         Outcome::Failed(reason) => without_sound("failed", None, &format!(": {reason}")),
         Outcome::NotRendered => without_sound("not rendered", None, ""),
+    }
+}
+
+/// The levels of a note, and what they warn of.
+fn levels(told: &Told) -> String {
+    let Told { peak, loudness, warning, .. } = told;
+    let unit = |number: &str, unit: &str| match number {
+        "" => String::new(),
+        _ => format!(", {number} {unit}"),
+    };
+    let levels = [unit(peak, "dBFS"), unit(loudness, "LUFS")].concat();
+    let levels = match levels.strip_prefix(", ") {
+        Some(levels) => format!("<br>{levels}"),
+        None => String::new(),
+    };
+    match &warning[..] {
+        "" => levels,
+        _ => format!("{levels}<br><b>Warning: {}.</b>", escaped(warning)),
     }
 }
 

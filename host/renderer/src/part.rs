@@ -1,5 +1,6 @@
 //! Files that take their names only once they are whole.
 
+use crate::checksum::{self, Checksum};
 use std::fs::{self, File, OpenOptions};
 use std::io::{self, BufWriter, Read, Seek, SeekFrom, Write};
 use std::path::{Path, PathBuf};
@@ -31,11 +32,7 @@ pub struct Whole {
 
 impl Part {
     pub fn create(path: &Path) -> io::Result<Self> {
-        let part = part_of(path)?;
-        // What a run that was cut off left there; a link is not followed.
-        drop(fs::remove_file(&part));
-        let file = OpenOptions::new().write(true).create_new(true).open(&part)?;
-        let whole = Whole { path: path.into(), part, is_left: false };
+        let (file, whole) = Whole::create(path)?;
         Ok(Part { whole, file: BufWriter::new(file) })
     }
 
@@ -59,11 +56,6 @@ impl Part {
         Ok(self.whole)
     }
 
-    /// Leaves the part to a later run where it is not named.
-    pub fn leave(&mut self) {
-        self.whole.is_left = true;
-    }
-
     /// Closes the file.
     pub fn close(mut self) -> io::Result<Whole> {
         self.file.flush()?;
@@ -82,6 +74,20 @@ impl Write for Part {
 }
 
 impl Whole {
+    /// A file that is empty and open, and what names it.
+    pub fn create(path: &Path) -> io::Result<(File, Self)> {
+        let part = part_of(path)?;
+        // What a run that was cut off left there; a link is not followed.
+        drop(fs::remove_file(&part));
+        let file = OpenOptions::new().read(true).write(true).create_new(true).open(&part)?;
+        Ok((file, Whole { path: path.into(), part, is_left: false }))
+    }
+
+    /// The checksum of what is written.
+    pub fn checksum(&self) -> io::Result<Checksum> {
+        checksum::of_file(&self.part)
+    }
+
     /// Opens the file at its beginning.
     pub fn open(self) -> io::Result<Part> {
         let file = OpenOptions::new().write(true).open(&self.part)?;
@@ -108,5 +114,47 @@ impl Drop for Whole {
         if !self.is_left {
             drop(fs::remove_file(&self.part));
         }
+    }
+}
+
+/// A file of lines in the making, which has its room, and whose last line may be written anew.
+pub struct Lines {
+    part: Part,
+    /// Where the last line begins and ends.
+    last: u64,
+    end: u64,
+}
+
+impl Lines {
+    /// Begins the file at the path with its first lines, and room for so many bytes.
+    pub fn begin(path: &Path, room: u64, header: &str) -> io::Result<Self> {
+        let part = Part::with_room(path, room)?;
+        let mut lines = Lines { part, last: 0, end: 0 };
+        lines.line(header)?;
+        Ok(lines)
+    }
+
+    /// Leaves the part to a later run where it is not named.
+    pub fn leave(&mut self) {
+        self.part.whole.is_left = true;
+    }
+
+    /// Adds a line.
+    pub fn line(&mut self, line: &str) -> io::Result<()> {
+        self.last = self.end;
+        self.again(line)
+    }
+
+    /// Writes the last line anew.
+    pub fn again(&mut self, line: &str) -> io::Result<()> {
+        self.part.go_to(self.last)?;
+        writeln!(self.part, "{line}")?;
+        self.part.flush()?;
+        self.end = self.last + line.len() as u64 + 1;
+        Ok(())
+    }
+
+    pub fn close(self) -> io::Result<Whole> {
+        self.part.close_at(self.end)
     }
 }

@@ -36,6 +36,12 @@ pub fn f0(hertz: f64, rate: u32) -> f32 {
     (hertz / f64::from(rate)) as f32
 }
 
+/// The key at or below a frequency, held to those of a keyboard, and the hundredths of a semitone above it.
+pub fn key(hertz: f64) -> (u8, u8) {
+    let hundredths = (6900.0 + 1200.0 * (hertz / 440.0).log2()).round().clamp(0.0, 12799.0) as u16;
+    ((hundredths / 100) as u8, (hundredths % 100) as u8)
+}
+
 /// The notes that the bank accepts at a sample rate, in hertz and as names.
 pub fn range(rate: u32) -> String {
     let accepted = Knob::F0.range();
@@ -78,7 +84,20 @@ fn of_number(number: i32) -> f64 {
 
 #[cfg(test)]
 mod tests {
-    use super::{hertz, name, range};
+    use super::{hertz, key, name, range};
+
+    #[test]
+    fn a_frequency_is_a_key_and_hundredths() {
+        let cases = [(440.0, (69, 0)), (220.0, (57, 0)), (452.9, (69, 50)), (0.1, (0, 0))];
+        for (hertz, expected) in cases {
+            assert_eq!(key(hertz), expected, "{hertz}");
+        }
+        assert_eq!(key(23000.0), (127, 99));
+        for number in 0..128 {
+            let note: i32 = number;
+            assert_eq!(key(hertz(&note.to_string()).unwrap()), (note as u8, 0));
+        }
+    }
 
     #[test]
     fn names_numbers_and_hertz_agree() {

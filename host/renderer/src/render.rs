@@ -1,39 +1,20 @@
 //! A note rendered to a file, block by block through a bank of its own.
 
 use crate::blocks::{Block, Blocks, SHORT};
+use crate::levels::{Levels, QUIET, decibels};
 use crate::note::{Fault, Note};
+use crate::order::Order;
 use crate::outcome::{Outcome, Rendered};
-use crate::sheet::Row;
+use crate::output::{Heard, Output};
+use crate::pitch;
+use crate::settings::{Level, Settings};
+use crate::shape::Shape;
+use crate::sheet::cell;
+use crate::sndfile::Tags;
 use crate::stop::Stop;
-use crate::wav::{Format, Wav, written};
-use crate::wave::Wave;
 use bleidhvan::{Bank, Counts, Refusal};
 use std::io;
 use std::path::Path;
-
-/// What every note of a sheet is rendered with.
-#[derive(Debug, Clone, Copy)]
-pub struct Settings {
-    pub seed: u32,
-    pub rate: u32,
-    pub format: Format,
-    /// Whether aux is a second channel.
-    pub aux: bool,
-    /// The frames of the longest block. No byte of a file hangs on it, to which the tests hold it.
-    pub longest: usize,
-}
-
-impl Settings {
-    /// The channels of a file.
-    pub fn channels(&self) -> u32 {
-        if self.aux { 2 } else { 1 }
-    }
-
-    /// The frames of a note.
-    pub fn frames(&self, note: &Note) -> u64 {
-        (note.seconds * f64::from(self.rate)).round() as u64
-    }
-}
 
 /// Why there is no file.
 enum Failure {
@@ -50,72 +31,160 @@ fn seed_of(seed: u32, name: &str) -> u32 {
     seed.to_le_bytes().into_iter().chain(name.bytes()).fold(2166136261, step)
 }
 
-/// Renders the note of a row to the file at the path, which has not its name yet.
-pub fn render(row: &Row, note: &Note, settings: &Settings, path: &Path, stop: &Stop) -> Outcome {
-    match blocks(row, note, settings, path, stop) {
+/// Renders a note to the file at the path, which has not its name yet.
+pub fn render(
+    order: &Order,
+    note: &Note,
+    settings: &Settings,
+    path: &Path,
+    stop: &Stop,
+) -> Outcome {
+    let rendering = Rendering { order, note, settings, stop };
+    match rendering.file(path) {
         Ok(rendered) => Outcome::Rendered(Box::new(rendered)),
         // A NaN has many bits, and which of them are heard hangs on where the blocks end.
         Err(Failure::Nan) => {
-            render(row, note, &Settings { longest: SHORT, ..*settings }, path, stop)
+            render(order, note, &Settings { longest: SHORT, ..*settings }, path, stop)
         }
         Err(Failure::Refused(refusal)) => {
-            Outcome::Refused(Fault::refusal(refusal, row, settings.rate))
+            Outcome::Refused(Fault::refusal(refusal, &order.row, settings.rate))
         }
         Err(Failure::Unwritten(error)) => Outcome::unwritten(&error),
         Err(Failure::Stopped) => Outcome::NotRendered,
     }
 }
 
-fn blocks(
-    row: &Row,
-    note: &Note,
-    settings: &Settings,
-    path: &Path,
-    stop: &Stop,
-) -> Result<Rendered, Failure> {
-    let mut bank = Bank::new(seed_of(settings.seed, row.cells[0].trim()));
-    bank.open(0, note.kind, settings.rate as f32)?;
-    let frames = settings.frames(note);
-    let mut blocks = Blocks::new(bank, note, settings.longest);
-    let mut wave = Wave::new(frames);
-    let mut peak = 0_f32;
-    let mut sum = [0_u64; 3];
-    let mut done = 0;
-    let mut wav = None;
-    // A note of no frames is one block of none, so that its knobs are read as any other's.
-    while wav.is_none() || done < frames {
-        if stop.is_asked() {
-            return Err(Failure::Stopped);
-        }
-        let Block { out, aux, counts } = blocks.next(frames - done)?;
-        let heard = &[out, aux][..settings.channels() as usize];
-        if settings.longest > SHORT && heard.iter().any(|channel| has_nan(channel)) {
-            return Err(Failure::Nan);
-        }
-        let file = match &mut wav {
-            Some(file) => file,
-            None => wav.insert(Wav::create(path, settings, frames)?),
-        };
-        file.write(heard)?;
-        if settings.format == Format::Float32 {
-            wave.add(out);
-        } else {
-            // What is drawn is what the file holds, and the peak is the voice's own.
-            wave.add(
-                &out.iter().map(|sample| written(*sample, settings.format)).collect::<Vec<_>>(),
-            );
-            peak = out.iter().fold(peak, |peak, sample| sample.abs().max(peak));
-        }
-        done += out.len() as u64;
-        let Counts { burst, dust, dispersion } = counts;
-        for (sum, words) in sum.iter_mut().zip([burst, dust, dispersion]) {
-            *sum += words as u64;
+struct Rendering<'a> {
+    order: &'a Order,
+    note: &'a Note,
+    settings: &'a Settings,
+    stop: &'a Stop,
+}
+
+impl Rendering<'_> {
+    fn seed(&self) -> u32 {
+        seed_of(self.settings.seed, self.order.name())
+    }
+
+    /// Plays frames as long as they are wanted, at least one block, also of a note of no frames.
+    fn play(
+        &self,
+        frames: u64,
+        mut block: impl FnMut(&[&[f32]], Counts) -> Result<bool, Failure>,
+    ) -> Result<(), Failure> {
+        let mut bank = Bank::new(self.seed());
+        bank.open(0, self.note.kind, self.settings.rate as f32)?;
+        let mut blocks = Blocks::new(bank, self.note, self.settings.longest);
+        let mut done = 0;
+        loop {
+            if self.stop.is_asked() {
+                return Err(Failure::Stopped);
+            }
+            let Block { out, aux, counts } = blocks.next(frames - done)?;
+            let heard = &[out, aux][..self.settings.channels()];
+            if self.settings.longest > SHORT && heard.iter().any(|channel| has_nan(channel)) {
+                return Err(Failure::Nan);
+            }
+            done += out.len() as u64;
+            if !block(heard, counts)? || done >= frames {
+                return Ok(());
+            }
         }
     }
-    let (file, checksum) = wav.map(Wav::close).ok_or(Failure::Stopped)??;
-    let ([burst, dust, dispersion], peak) = (sum, wave.peak().max(peak));
-    let wave = Some(wave);
-    Ok(Rendered { frames, peak, burst, dust, dispersion, wave, checksum, file: Some(file) })
+
+    /// The frames of the note, and the decibels that it is raised by.
+    fn measured(&self) -> Result<(u64, f64), Failure> {
+        let (settings, most) = (self.settings, self.settings.frames(self.note));
+        if !settings.is_measured(self.note) {
+            let Level::Gain(gain) = settings.level else { return Ok((most, 0.0)) };
+            return Ok((most, gain));
+        }
+        let mut levels = Levels::new(settings)?;
+        let mut ring = Ring::new(settings.rate);
+        let mut sound = Vec::new();
+        self.play(most, |heard, _| {
+            sound.clear();
+            Shape::new(0.0, most, 0).add(heard, &mut sound);
+            levels.add(&sound);
+            Ok(self.note.seconds.is_some() || ring.goes_on(heard))
+        })?;
+        let frames = if self.note.seconds.is_some() { most } else { ring.frames().min(most) };
+        let to = |target: f64, level: Option<f64>| level.map_or(0.0, |level| target - level);
+        let decibels = match settings.level {
+            Level::Gain(gain) => gain,
+            Level::Peak(target) => to(target, decibels(levels.peak)),
+            Level::Loudness(target) => to(target, levels.loudness()),
+        };
+        Ok((frames, decibels))
+    }
+
+    fn file(&self, path: &Path) -> Result<Rendered, Failure> {
+        let (frames, decibels) = self.measured()?;
+        let (seed, tags) = (self.seed(), self.tags());
+        let mut output = Output::create(path, self.settings, frames, decibels, seed, &tags)?;
+        let mut peak = 0_f32;
+        let mut sum = [0_u64; 3];
+        self.play(frames, |heard, Counts { burst, dust, dispersion }| {
+            output.add(heard)?;
+            peak = peak.max(magnitude(heard[0]));
+            for (sum, words) in sum.iter_mut().zip([burst, dust, dispersion]) {
+                *sum += words as u64;
+            }
+            Ok(true)
+        })?;
+        let Heard { whole, checksum, told, wave } = output.close()?;
+        let [burst, dust, dispersion] = sum;
+        let (wave, file) = (Some(wave), Some(whole));
+        Ok(Rendered { frames, peak, burst, dust, dispersion, told, wave, checksum, file })
+    }
+
+    /// What the file says of itself.
+    fn tags(&self) -> Tags {
+        // The row and not its number, so that a row that moves in its sheet is the same file.
+        let cells: Vec<String> =
+            self.order.row.cells.iter().map(|text| cell(text.trim())).collect();
+        let comment = format!("{}; seed {}", cells.join(","), self.settings.seed);
+        let key = pitch::key(self.note.hertz);
+        Tags { title: self.order.name().into(), comment, key }
+    }
+}
+
+/// Follows a note until it has died away: a second long no sample is within 90 dB of the highest so far.
+struct Ring {
+    hold: u64,
+    peak: f32,
+    frames: u64,
+    heard: u64,
+}
+
+impl Ring {
+    fn new(rate: u32) -> Self {
+        Ring { hold: rate.into(), peak: 0.0, frames: 0, heard: 0 }
+    }
+
+    /// Whether the note rings on behind these samples.
+    fn goes_on(&mut self, channels: &[&[f32]]) -> bool {
+        let n = channels.first().map_or(0, |channel| channel.len());
+        for channel in channels {
+            self.peak = self.peak.max(magnitude(channel));
+            let quiet = self.peak * QUIET;
+            if let Some(last) = channel.iter().rposition(|sample| sample.abs() > quiet) {
+                self.heard = self.heard.max(self.frames + last as u64 + 1);
+            }
+        }
+        self.frames += n as u64;
+        self.frames - self.heard < self.hold
+    }
+
+    /// The frames up to where it died away, in whole short blocks.
+    fn frames(&self) -> u64 {
+        self.heard.next_multiple_of(SHORT as u64)
+    }
+}
+
+/// The highest magnitude, a NaN left out.
+fn magnitude(samples: &[f32]) -> f32 {
+    samples.iter().fold(0.0, |peak, sample| sample.abs().max(peak))
 }
 
 /// Whether a sample is a NaN; all are looked at, many at once.

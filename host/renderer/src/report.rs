@@ -24,8 +24,10 @@ pub fn told(asked: &Asked, lines: usize, sum: &Sum, stale: &Stale) -> Result<(),
         ));
     }
     if !asked.is_quiet {
-        let more = sum.refused + sum.failed - sum.told.len();
-        list(&sum.told, more, "which catalogue.csv names");
+        let [without, warned] = &sum.told;
+        let more = sum.refused + sum.failed - without.len();
+        list(without, more, "which catalogue.csv names");
+        list(warned, sum.warned - warned.len(), "whose warnings catalogue.csv has");
         let left = |name: &String| {
             format!("left: {name}: this sheet does not render it, and it is not as it was rendered")
         };
@@ -45,7 +47,7 @@ pub fn told(asked: &Asked, lines: usize, sum: &Sum, stale: &Stale) -> Result<(),
 }
 
 /// Lists lines on standard error, with nothing in them that moves a terminal.
-fn list(lines: &[String], more: usize, what: &str) {
+pub fn list(lines: &[String], more: usize, what: &str) {
     for line in lines {
         let line = line.replace(char::is_control, "\u{fffd}");
         drop(writeln!(io::stderr(), "{line}"));

@@ -4,25 +4,32 @@ use crate::catalogue;
 use crate::order::Orders;
 use crate::outcome::Outcome;
 use crate::page::{self, ROWS};
-use crate::render::Settings;
+use crate::settings::Settings;
+use crate::sfz;
 
 pub struct Room {
     pub catalogue: u64,
     /// Of each page.
     pub pages: Vec<u64>,
+    pub sfz: u64,
 }
 
 impl Room {
     /// The room for orders whatever becomes of them.
     pub fn of(orders: Orders, settings: &Settings) -> Self {
-        let mut room = Room { catalogue: catalogue::HEADER.len() as u64 + 1, pages: vec![] };
+        let [catalogue, sfz] = [catalogue::HEADER, sfz::HEADER].map(|text| text.len() as u64 + 1);
+        let mut room = Room { catalogue, pages: vec![], sfz };
         for (place, order) in orders.enumerate() {
             let outcome = Outcome::unplayed(&order);
             let is_played = order.note.is_ok();
             let line = catalogue::line(&order, &outcome, settings).len();
-            let row = page::row(&order, &outcome).len();
+            let row = page::row(&order, &outcome, settings).len();
             let more = |bytes: usize| if is_played { bytes } else { 0 };
             room.catalogue += (line + 1 + more(catalogue::MORE)) as u64;
+            if is_played {
+                let file = catalogue::file_of(order.name(), settings.format);
+                room.sfz += sfz::region(&order, &file).len() as u64 + 1;
+            }
             if place % ROWS == 0 {
                 room.pages.push(page::FRAME as u64);
             }
@@ -39,6 +46,7 @@ mod tests {
     use super::Room;
     use crate::catalogue;
     use crate::checksum::Summing;
+    use crate::levels::Told;
     use crate::order::Orders;
     use crate::outcome::{Outcome, Rendered, Sum};
     use crate::page;
@@ -55,6 +63,12 @@ mod tests {
         Outcome::Kept(Box::new(Rendered {
             frames: most,
             peak: f32::from_bits(1),
+            told: Told {
+                peak: "-899.99".into(),
+                loudness: "-70.0".into(),
+                silent: "3599.999".into(),
+                warning: "w".repeat(120),
+            },
             burst: most,
             dust: most,
             dispersion: most,
@@ -87,7 +101,7 @@ mod tests {
                 let outcome =
                     if order.note.is_ok() { outcome() } else { Outcome::unplayed(&order) };
                 lines += catalogue::line(&order, &outcome, &SETTINGS).len() + 1;
-                rows += page::row(&order, &outcome).len();
+                rows += page::row(&order, &outcome, &SETTINGS).len();
             }
             assert!((catalogue::HEADER.len() + 1 + lines) as u64 <= room.catalogue, "{lines}");
             let frame = page::begin(399, 400, 100_000).len() + page::end(399, 400).len();

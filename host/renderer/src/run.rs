@@ -3,18 +3,20 @@
 use crate::catalogue::{self, file_of};
 use crate::claim::in_the_way;
 use crate::folder::Folder;
-use crate::journal::Journal;
 use crate::known::{Known, Stale};
 use crate::name::key;
 use crate::order::{Order, Orders};
 use crate::outcome::{Outcome, Rendered, Sum};
 use crate::page;
 use crate::pages::{self, Pages};
-use crate::render::{Settings, render};
+use crate::part::Lines;
+use crate::render::render;
 use crate::room::Room;
+use crate::settings::Settings;
+use crate::sfz;
 use crate::sheet::Sheet;
 use crate::stop::Stop;
-use crate::work::in_order;
+use crate::work::{Work, in_order};
 use std::collections::HashMap;
 use std::io;
 
@@ -33,8 +35,11 @@ pub struct Run<'a> {
 
 /// What a run has written so far.
 struct Written {
-    journal: Journal,
+    /// The catalogue: a line is there before its note's file has its name, so that a run that is cut off leaves no file that
+    /// nobody knows.
+    journal: Lines,
     pages: Pages,
+    sfz: Lines,
     sum: Sum,
     /// The files of this run, by what they are to file systems.
     files: HashMap<String, String>,
@@ -49,13 +54,17 @@ impl Run<'_> {
         {
             return Outcome::Kept(kept);
         }
-        let path = self.folder.file(&file_of(order.name()));
-        render(&order.row, note, self.settings, &path, self.stop)
+        let path = self.folder.file(&self.file_of(order));
+        render(order, note, self.settings, &path, self.stop)
+    }
+
+    fn file_of(&self, order: &Order) -> String {
+        file_of(order.name(), self.settings.format)
     }
 
     /// The note of an earlier run, where nothing has changed since.
     fn kept(&self, order: &Order) -> Option<Box<Rendered>> {
-        let (file, made) = (file_of(order.name()), catalogue::made(order, self.settings));
+        let (file, made) = (self.file_of(order), catalogue::made(order, self.settings));
         self.known.kept(self.folder, &file, made, self.settings, self.stop).map(Box::new)
     }
 
@@ -68,15 +77,24 @@ impl Run<'_> {
         let orders = || Orders::new(sheet.clone(), self.settings);
         let room = Room::of(orders(), self.settings);
         let pages = Pages::begin(self.folder, &room.pages, self.ordered)?;
-        let journal = Journal::begin(&self.folder.file(catalogue::FILE), room.catalogue)?;
-        let mut written = Written { journal, pages, sum: Sum::default(), files: HashMap::new() };
-        in_order(orders(), self.jobs, self.stop, play, |order, outcome| {
+        let catalogue = self.folder.file(catalogue::FILE);
+        let mut journal = Lines::begin(&catalogue, room.catalogue, catalogue::HEADER)?;
+        journal.leave();
+        let sfz = Lines::begin(&self.folder.file(sfz::FILE), room.sfz, sfz::HEADER)?;
+        let (sum, files) = (Sum::default(), HashMap::new());
+        let mut written = Written { journal, pages, sfz, sum, files };
+        let work = Work { play, halted: Outcome::Failed };
+        let left = in_order(orders(), self.jobs, self.stop, &work, |order, outcome| {
             self.hand_over(&order, outcome, &mut written)
         })?;
-        let Written { journal, pages, sum, files } = written;
-        let (pages, journal) = (pages.close(&sum)?, journal.close()?);
+        for order in left {
+            self.hand_over(&order, Outcome::unplayed(&order), &mut written)?;
+        }
+        let Written { journal, pages, sfz, sum, files } = written;
+        let (pages, sfz, journal) = (pages.close(&sum)?, sfz.close()?, journal.close()?);
         let stale = self.known.remove_stale(self.folder, &files);
         pages::name(pages, self.folder)?;
+        sfz.name()?;
         journal.name()?;
         self.folder.finish()?;
         Ok((sum, stale))
@@ -95,23 +113,25 @@ impl Run<'_> {
             written.journal.again(&line(&outcome))?;
         }
         if let Outcome::Rendered(_) | Outcome::Kept(_) = outcome {
-            written.files.insert(key(&file_of(order.name())), file_of(order.name()));
+            written.files.insert(key(&self.file_of(order)), self.file_of(order));
+            written.sfz.line(&sfz::region(order, &self.file_of(order)))?;
         }
         written.sum.add(order, &outcome);
-        written.pages.row(&page::row(order, &outcome))
+        written.pages.row(&page::row(order, &outcome, self.settings))
     }
 
     /// The outcome, where its file's name is free; of a note that failed or that a stop left, that of the run before.
     fn settled(&self, order: &Order, outcome: Outcome) -> Outcome {
+        let format = self.settings.format;
         match &outcome {
             Outcome::Rendered(rendered) => {
-                in_the_way(order, rendered, self.folder, self.known, self.is_forced)
+                in_the_way(order, rendered, self.folder, self.known, format, self.is_forced)
                     .unwrap_or(outcome)
             }
             Outcome::Failed(_) => self.kept(order).map_or(outcome, Outcome::Kept),
             Outcome::NotRendered => {
                 let made = catalogue::made(order, self.settings);
-                let unread = self.known.unread(self.folder, &file_of(order.name()), made);
+                let unread = self.known.unread(self.folder, &self.file_of(order), made);
                 unread.map_or(outcome, |unread| Outcome::Kept(Box::new(unread)))
             }
             _ => outcome,

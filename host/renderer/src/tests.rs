@@ -1,14 +1,21 @@
 //! What several tests need.
 
 use crate::folder::Folder;
-use crate::render::Settings;
-use crate::wav::Format;
+use crate::format::Format;
+use crate::settings::{Level, Settings};
 use std::fs;
 use std::path::PathBuf;
 use std::sync::atomic::{AtomicUsize, Ordering};
 
-pub const SETTINGS: Settings =
-    Settings { seed: 0, rate: 48000, format: Format::Float32, aux: false, longest: 24 };
+pub const SETTINGS: Settings = Settings {
+    seed: 0,
+    rate: 48000,
+    format: Format::Float32,
+    aux: false,
+    level: Level::Gain(0.0),
+    fade: 0.0,
+    longest: 24,
+};
 
 /// A folder of a test's own, removed with it.
 pub struct Scratch(pub PathBuf);

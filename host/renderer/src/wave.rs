@@ -32,11 +32,6 @@ impl Wave {
             rest = later;
         }
     }
-
-    /// The highest magnitude.
-    pub fn peak(&self) -> f32 {
-        self.columns.iter().fold(0.0, |peak: f32, [low, high]| peak.max(low.abs()).max(*high))
-    }
 }
 
 /// The lowest and the highest of a range and of samples, a NaN left out.

@@ -1,8 +1,6 @@
-//! Orders played side by side, and handed over in the sheet's order.
+//! Items played side by side, and handed over in their order.
 
 use crate::note::clipped;
-use crate::order::{Order, Orders};
-use crate::outcome::Outcome;
 use crate::stop::Stop;
 use std::any::Any;
 use std::collections::BTreeMap;
@@ -20,14 +18,14 @@ const AHEAD: usize = 16;
 
 /// The bytes of a worker's stack, and those that it is sure to have beside.
 const STACK: usize = 1 << 19;
-const MEMORY: usize = 1 << 20;
+const MEMORY: usize = 4 << 20;
 
 /// The bytes that are left beside those of all workers.
 const SPARE: usize = 8 << 20;
 
-/// The orders that are left, and how many were taken and are through.
-struct Queue<'a> {
-    orders: Orders<'a>,
+/// The items that are left, and how many were taken and are through.
+struct Queue<I> {
+    items: I,
     /// The workers that have begun.
     workers: usize,
     taken: usize,
@@ -37,17 +35,20 @@ struct Queue<'a> {
     is_closed: bool,
 }
 
-struct Shared<'a> {
-    queue: Mutex<Queue<'a>>,
+struct Shared<I> {
+    queue: Mutex<Queue<I>>,
     moved: Condvar,
 }
 
-/// An order with its place, and what became of it.
-type Played = (usize, Order, Outcome);
+/// What is done with an item, and what becomes of one at which a worker halts.
+pub struct Work<P, H> {
+    pub play: P,
+    pub halted: H,
+}
 
-impl Shared<'_> {
-    /// Takes the next order, once it is not too far ahead.
-    fn take(&self, stop: &Stop) -> Option<(usize, Order)> {
+impl<T: Send, I: Iterator<Item = T> + Send> Shared<I> {
+    /// Takes the next item, once it is not too far ahead.
+    fn take(&self, stop: &Stop) -> Option<(usize, T)> {
         let mut queue = self.queue.lock().unwrap_or_else(PoisonError::into_inner);
         while !queue.is_closed && queue.taken >= queue.through + queue.ahead {
             queue = self.moved.wait(queue).unwrap_or_else(PoisonError::into_inner);
@@ -55,36 +56,44 @@ impl Shared<'_> {
         if queue.is_closed || stop.is_asked() {
             return None;
         }
-        let order = queue.orders.next()?;
+        let item = queue.items.next()?;
         queue.taken += 1;
-        Some((queue.taken - 1, order))
+        Some((queue.taken - 1, item))
     }
 
-    fn change(&self, change: impl FnOnce(&mut Queue)) {
+    fn change(&self, change: impl FnOnce(&mut Queue<I>)) {
         change(&mut self.queue.lock().unwrap_or_else(PoisonError::into_inner));
         self.moved.notify_all();
     }
 
-    /// Plays orders until none is left. A note at which a worker halts has failed, and the worker goes on with the next.
-    fn work(&self, stop: &Stop, play: &impl Fn(&Order) -> Outcome, played: &Sender<Played>) {
+    /// Plays items until none is left. One at which a worker halts has failed, and the worker goes on with the next.
+    fn work<O>(
+        &self,
+        stop: &Stop,
+        work: &Work<impl Fn(&T) -> O, impl Fn(String) -> O>,
+        played: &Sender<(usize, T, O)>,
+    ) {
         self.change(|queue| queue.workers += 1);
-        while let Some((place, order)) = self.take(stop) {
-            let outcome = panic::catch_unwind(AssertUnwindSafe(|| play(&order)));
-            let outcome = outcome.unwrap_or_else(|panic| Outcome::Failed(halted(&*panic)));
-            if played.send((place, order, outcome)).is_err() {
+        while let Some((place, item)) = self.take(stop) {
+            let outcome = panic::catch_unwind(AssertUnwindSafe(|| (work.play)(&item)));
+            let outcome = outcome.unwrap_or_else(|panic| (work.halted)(halted(&*panic)));
+            if played.send((place, item, outcome)).is_err() {
                 return;
             }
         }
     }
 
     /// Begins as many workers as there is memory for, at most so many, and opens the queue to them.
-    fn begin<'scope>(
+    fn begin<'scope, O: Send + 'scope>(
         &'scope self,
         scope: &'scope Scope<'scope, '_>,
         jobs: usize,
         stop: &'scope Stop,
-        play: &'scope (impl Fn(&Order) -> Outcome + Sync),
-    ) -> io::Result<Receiver<Played>> {
+        work: &'scope Work<impl Fn(&T) -> O + Sync, impl Fn(String) -> O + Sync>,
+    ) -> io::Result<Receiver<(usize, T, O)>>
+    where
+        T: 'scope,
+    {
         one_heap();
         let (sender, played) = mpsc::channel();
         let mut held = vec![memory(SPARE)?];
@@ -93,7 +102,7 @@ impl Shared<'_> {
             let worker = thread::Builder::new().name(WORKER.into()).stack_size(STACK);
             // What the thread takes as it begins is free, and held only once it has begun.
             let begun = memory(STACK + 2 * MEMORY).map(drop).and_then(|()| {
-                worker.spawn_scoped(scope, move || self.work(stop, play, &sender))?;
+                worker.spawn_scoped(scope, move || self.work(stop, work, &sender))?;
                 self.wait(job + 1);
                 memory(MEMORY)
             });
@@ -141,25 +150,25 @@ fn halted(panic: &(dyn Any + Send)) -> String {
     format!("the renderer halted at it: {}", clipped(text.unwrap_or("for no reason that it gave")))
 }
 
-/// Plays orders in as many jobs as there is memory for, and hands each over in the sheet's order, also those that a stop leaves.
-pub fn in_order(
-    orders: Orders,
+/// Plays items in as many jobs as there is memory for, hands each over in its order, and gives those that a stop left.
+pub fn in_order<T: Send, O: Send, I: Iterator<Item = T> + Send>(
+    items: I,
     jobs: usize,
     stop: &Stop,
-    play: impl Fn(&Order) -> Outcome + Sync,
-    mut hand_over: impl FnMut(Order, Outcome) -> io::Result<()>,
-) -> io::Result<()> {
-    let queue = Queue { orders, workers: 0, taken: 0, through: 0, ahead: 0, is_closed: false };
+    work: &Work<impl Fn(&T) -> O + Sync, impl Fn(String) -> O + Sync>,
+    mut hand_over: impl FnMut(T, O) -> io::Result<()>,
+) -> io::Result<I> {
+    let queue = Queue { items, workers: 0, taken: 0, through: 0, ahead: 0, is_closed: false };
     let shared = Shared { queue: Mutex::new(queue), moved: Condvar::new() };
     let played = thread::scope(|scope| {
-        let played = shared.begin(scope, jobs, stop, &play);
+        let played = shared.begin(scope, jobs, stop, work);
         let handed = played.and_then(|played| {
             let mut early = BTreeMap::new();
             let mut through = 0;
-            for (place, order, outcome) in played {
-                early.insert(place, (order, outcome));
-                while let Some((order, outcome)) = early.remove(&through) {
-                    hand_over(order, outcome)?;
+            for (place, item, outcome) in played {
+                early.insert(place, (item, outcome));
+                while let Some((item, outcome)) = early.remove(&through) {
+                    hand_over(item, outcome)?;
                     through += 1;
                     shared.change(|queue| queue.through = through);
                 }
@@ -171,10 +180,5 @@ pub fn in_order(
         handed
     });
     played?;
-    let left = shared.queue.into_inner().unwrap_or_else(PoisonError::into_inner).orders;
-    for order in left {
-        let outcome = Outcome::unplayed(&order);
-        hand_over(order, outcome)?;
-    }
-    Ok(())
+    Ok(shared.queue.into_inner().unwrap_or_else(PoisonError::into_inner).items)
 }

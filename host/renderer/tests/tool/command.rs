@@ -1,6 +1,6 @@
 //! What the command line says where it is wrong.
 
-use crate::run::{Folder, GOOD, said, tool};
+use crate::run::{Folder, GOOD, WARNING, said, tool};
 use std::collections::BTreeSet;
 use std::ffi::OsStr;
 use std::fs;
@@ -31,8 +31,8 @@ fn a_wrong_command_says_what_to_write() {
             "a whole number from 8000 to 192000",
         ),
         (
-            &[&"render", &sheet, &"-o", &out, &"--bits", &"24"],
-            "--bits is '24', and must be 32 or 16",
+            &[&"render", &sheet, &"-o", &out, &"--bits", &"12"],
+            "--bits is '12', and must be 32, 24 or 16",
         ),
         (&[&"render", &sheet, &"-o", &out, &"--loud"], "--loud is no option"),
         (&[&"render", &sheet, &sheet, &"-o", &out], "is one sheet too many"),
@@ -66,7 +66,7 @@ fn paths_that_are_not_utf_8_are_rendered() {
     let out = folder.0.join(OsStr::from_bytes(b"not\xe9s"));
     for sum in ["5 rendered", "0 rendered + 5 kept"] {
         let (status, text, error) = said(&tool(&[&"render", &sheet, &"-o", &out]));
-        assert_eq!((status, &error[..]), (0, ""));
+        assert_eq!((status, &error[..]), (0, WARNING));
         assert!(text.starts_with(&format!("5 notes ordered = {sum} + 0 refused\n")), "{text}");
     }
     let missing = folder.0.join(OsStr::from_bytes(b"\xe9"));

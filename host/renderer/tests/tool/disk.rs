@@ -57,12 +57,16 @@ fn number(sum: &str, word: &str) -> usize {
 }
 
 /// Renders to a disk of so many kilobytes, and again once there is room; gives the first run's exit status.
-fn full(folder: &Folder, kilobytes: usize, jobs: usize, whole: &Path) -> Option<i32> {
+fn full(folder: &Folder, kilobytes: usize, jobs: usize, format: &str) -> Option<i32> {
+    let whole = folder.path(format);
     let out = folder.path(&format!("{kilobytes}-{jobs}"));
     let small = Small::mounted(out.clone(), kilobytes)?;
     let (sheet, jobs) = (folder.sheet(&rows()), jobs.to_string());
-    let render = || said(&tool(&[&"render", &sheet, &"-o", &out, &"--jobs", &jobs]));
-    let (status, sum, error) = render();
+    let render = |out: &Path| {
+        said(&tool(&[&"render", &sheet, &"-o", &out, &"--jobs", &jobs, &"--format", &format]))
+    };
+    assert_eq!(render(&whole).0, 0);
+    let (status, sum, error) = render(&out);
     let [rendered, failed] = ["rendered", "failed"].map(|word| number(&sum, word));
     match status {
         2 => {
@@ -83,23 +87,24 @@ fn full(folder: &Folder, kilobytes: usize, jobs: usize, whole: &Path) -> Option<
         is_clean(&out);
     }
     assert!(small.mount("remount,size=20000k", "tmpfs"));
-    let (again, sum, error) = render();
+    let (again, sum, error) = render(&out);
     assert_eq!((again, number(&sum, "kept")), (0, rendered), "{sum}{error}");
-    assert!(files(&out) == files(whole));
+    assert!(files(&out) == files(&whole));
     Some(status)
 }
 
 #[test]
 fn a_full_disk_has_its_catalogue_and_fails_what_it_cannot_hold() {
     let folder = Folder::new("full");
-    let whole = folder.path("whole");
-    assert_eq!(said(&tool(&[&"render", &folder.sheet(&rows()), &"-o", &whole])).0, 0);
     let mut statuses = Vec::new();
     for kilobytes in (100..6200).step_by(300) {
-        match full(&folder, kilobytes, 1 + kilobytes / 100 % 3, &whole) {
+        match full(&folder, kilobytes, 1 + kilobytes / 100 % 3, "wav") {
             Some(status) => statuses.push(status),
             None => return,
         }
+    }
+    for kilobytes in (350..1000).step_by(150) {
+        assert_eq!(full(&folder, kilobytes, 2, "flac"), Some(3), "{kilobytes}");
     }
     for status in [0, 2, 3] {
         assert!(statuses.contains(&status), "{statuses:?}");

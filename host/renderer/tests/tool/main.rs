@@ -7,4 +7,5 @@ mod folder;
 mod notes;
 mod run;
 mod sheets;
+mod sound;
 mod wave;

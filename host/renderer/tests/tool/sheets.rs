@@ -1,6 +1,6 @@
 //! What becomes of sheets that are wrong in a part or in whole.
 
-use crate::run::{Folder, GOOD, HEADER, files, lines, said, tool};
+use crate::run::{Folder, GOOD, HEADER, WARNING, files, lines, said, tool};
 use std::fs;
 
 #[test]
@@ -31,7 +31,7 @@ k,modal,A3,0.01,sustain,0.5,0.5,0.5,0.5
         "d,refused,,,,,,,9,note,30000hz,\"0.0458hz to 24000hz, or C-1 to G9\",\"note is '30000hz', and must",
         "B,refused,,,,,,,,name,B,\"another: it is that of line 3, as file systems compare names\",",
         "../e,refused,,,,,,,,name,../e,",
-        "f,refused,,,,,,,,seconds,-1,a number from 0 to 3600,",
+        "f,refused,,,,,,,,seconds,-1,\"a number from 0 to 3600, or ring for a struck note\",",
         "g,refused,,,,,,,,structure,x,a number such as 0.5,",
         "h,refused,,,,,,,10,accent,NaN,0 to 1,",
         "i,refused,,,,,,,,,,,\"the row has 3 cells, where the header has 9\"",
@@ -50,7 +50,7 @@ k,modal,A3,0.01,sustain,0.5,0.5,0.5,0.5
     );
     assert_eq!(error.lines().count(), 10);
     let names: Vec<String> = files(&out).into_keys().collect();
-    assert_eq!(names, ["b.wav", "catalogue.csv", "index.html", "k.wav"]);
+    assert_eq!(names, ["b.wav", "catalogue.csv", "index.html", "k.wav", "notes.sfz"]);
 }
 
 #[test]
@@ -98,11 +98,11 @@ fn tabs_semicolons_and_any_line_end_give_the_same_notes() {
         let (sheet, out) = (folder.path(&format!("{name}.csv")), folder.path(name));
         fs::write(&sheet, text).expect("the sheet is written");
         let (status, _, error) = said(&tool(&[&"render", &sheet, &"-o", &out]));
-        assert_eq!((status, &error[..]), (0, ""), "{name}");
+        assert_eq!((status, &error[..]), (0, WARNING), "{name}");
         files(&out)
     };
     let plain = notes("plain", &text);
-    assert_eq!(plain.len(), 7);
+    assert_eq!(plain.len(), 8);
     let marked = format!("\u{feff}{text}");
     let forms = [
         ("semicolons", text.replace(',', ";")),
@@ -139,7 +139,7 @@ aux,modal,A3,0.01,trigger,0.5,0.5,0.5,0.5
     assert!(error.contains("without the character U+200B"));
     assert!(error.contains("name is 'aux', and must be another: Windows keeps"));
     let names: Vec<String> = files(&out).into_keys().collect();
-    assert_eq!(names, ["a.wav", "caf\u{e9}.wav", "catalogue.csv", "index.html"]);
+    assert_eq!(names, ["a.wav", "caf\u{e9}.wav", "catalogue.csv", "index.html", "notes.sfz"]);
 }
 
 #[test]

@@ -2,46 +2,31 @@
 
 use crate::run::said;
 use bleidhvan::{Bank, Kind, Knobs};
+use std::collections::BTreeMap;
 use std::path::Path;
 use std::process::Command;
 
-/// The frames of a WAV file as Python reads them: its header's numbers, and each sample as bits.
-pub fn python(path: &Path) -> (Vec<u32>, Vec<u32>) {
-    let script = "
-import struct, sys, wave
-path = sys.argv[1]
-try:
-    with wave.open(path) as w:
-        head = [w.getnchannels(), w.getframerate(), 8 * w.getsampwidth(), w.getnframes()]
-        samples = [s & 0xffffffff for (s,) in struct.iter_unpack('<h', w.readframes(w.getnframes()))]
-except wave.Error as error:
-    assert str(error) == 'unknown format: 3', error
-    data = open(path, 'rb').read()
-    assert data[:4] == b'RIFF' and data[8:12] == b'WAVE' and struct.unpack('<I', data[4:8])[0] == len(data) - 8
-    at, chunks = 12, {}
-    while at < len(data):
-        size = struct.unpack('<I', data[at + 4:at + 8])[0]
-        chunks[data[at:at + 4]] = data[at + 8:at + 8 + size]
-        at += 8 + size
-    tag, channels, rate, byte_rate, align, bits = struct.unpack('<HHIIHH', chunks[b'fmt '][:16])
-    assert (tag, byte_rate, align, bits) == (3, 4 * channels * rate, 4 * channels, 32)
-    frames = struct.unpack('<I', chunks[b'fact'])[0]
-    assert len(chunks[b'data']) == frames * align
-    head = [channels, rate, bits, frames]
-    samples = [s for (s,) in struct.iter_unpack('<I', chunks[b'data'])]
-print(*head)
-print(*samples)
-";
-    let output =
-        Command::new("python3").arg("-c").arg(script).arg(path).output().expect("python3 runs");
+/// What a file holds: the channels, the rate, the bits and the frames; every sample, a float by its bits; and its tags.
+pub struct Read {
+    pub head: Vec<i64>,
+    pub samples: Vec<i64>,
+    pub tags: BTreeMap<String, String>,
+}
+
+/// What a file holds as Python reads it, without libsndfile.
+pub fn read(path: &Path) -> Read {
+    let script = concat!(env!("CARGO_MANIFEST_DIR"), "/tests/tool/read.py");
+    let output = Command::new("python3").arg(script).arg(path).output().expect("python3 runs");
     let (status, text, error) = said(&output);
     assert_eq!(status, 0, "{error}");
     let mut lines = text.lines();
-    let mut numbers = || -> Vec<u32> {
+    let mut numbers = || -> Vec<i64> {
         let line = lines.next().unwrap_or_default();
         line.split_whitespace().map(|word| word.parse().expect("a number")).collect()
     };
-    (numbers(), numbers())
+    let (head, samples) = (numbers(), numbers());
+    let tags = lines.filter_map(|line| line.split_once('\t'));
+    Read { head, samples, tags: tags.map(|(name, text)| (name.into(), text.into())).collect() }
 }
 
 /// The seed that the tool gives a note of that name.
