@@ -7,7 +7,7 @@
 # make record: the oracle's answers for the program replay, written anew.
 # make mutants: two wrong programs for every function that has a contract, made by chance, each of which must be refused; some 40 minutes.
 
-.PHONY: render install test bench compare replay record mutants
+.PHONY: ready render install test bench compare replay record mutants
 
 SHELL := bash
 .SHELLFLAGS := -o pipefail -c
@@ -17,12 +17,13 @@ sources := crates.txt $(wildcard HANDLES) $(shell find crates \( -path '*/must-f
 
 # A library is proved and built again only where a source has changed. It is kept apart from the crate's folder out/, which rt ci clears.
 $(libraries)/lib%.a: $(sources)
-	@echo "proving and building $*: some minutes the first time"
-	@mkdir -p $(libraries)
-	@(cd crates/$* && rt lib) 2>&1 | tee $(libraries)/$*.log | sed -n '/^rt: /p' || { tail -n 30 $(libraries)/$*.log; exit 1; }
-	@cp crates/$*/out/lib$*.a $@.new && mv $@.new $@
+	@tools/prove $*
 
-render: $(libraries)/libbank_abi.a
+# What the commands need is looked for before anything is proved.
+ready:
+	@tools/ready
+
+render: ready $(libraries)/libbank_abi.a
 	@host/cargo build --quiet --release -p renderer
 	@host/target/release/bleidhvan render examples/sheet.csv -o rendered --jobs "$$(nproc)"
 
@@ -30,7 +31,7 @@ PREFIX := /usr/local
 root = $(DESTDIR)$(PREFIX)
 share := host/renderer/share
 
-install: $(libraries)/libbank_abi.a
+install: ready $(libraries)/libbank_abi.a
 	@host/cargo build --quiet --release -p renderer
 	@install -D -m 755 host/target/release/bleidhvan "$(root)/bin/bleidhvan"
 	@install -D -m 644 $(share)/bleidhvan.1 "$(root)/share/man/man1/bleidhvan.1"
