@@ -30,3 +30,8 @@ pub use bank::{Bank, Buffers, Counts, Kind, Knobs};
 pub use refusal::{Knob, Refusal};
 pub use saved::LoadError;
 pub use subnormal::slow_subnormals;
+
+/// The README, whose example is tested as it stands.
+#[cfg(doctest)]
+#[doc = include_str!("../../../README.md")]
+struct Readme;
