@@ -15,7 +15,10 @@ use crate::wave::Wave;
 /// The catalogue's file.
 pub const FILE: &str = "catalogue.csv";
 
-pub const HEADER: &str = "name,status,file,frames,peak,burst,dust,dispersion,number,knob,value,range,reason,line,peak_dbfs,loudness_lufs,silent_seconds,warning,kind,note,seconds,play,accent,structure,brightness,damping,seed,rate,block,format,channels,level,fade,version,sha256";
+pub const HEADER: &str = "name,status,file,frames,peak,burst,dust,dispersion,number,knob,value,range,reason,line,\
+    peak_dbfs,loudness_lufs,silent_seconds,warning,\
+    kind,note,seconds,play,accent,structure,brightness,damping,\
+    seed,rate,block,format,channels,level,fade,version,sha256";
 
 /// The columns, and the first of those that say what made a note, which go to the last but one.
 const COLUMNS: usize = 35;

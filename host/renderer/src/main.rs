@@ -11,6 +11,8 @@ mod claim;
 mod command;
 mod folder;
 mod format;
+mod help;
+mod input;
 mod known;
 mod levels;
 mod lines;
@@ -43,14 +45,14 @@ mod verify;
 mod wave;
 mod work;
 
-use command::{Asked, Command, HELP};
-use folder::{Folder, Identity};
+use command::{Asked, Command};
+use folder::Folder;
+use help::HELP;
 use progress::Progress;
 use report::{complain, say};
 use run::Run;
 use sheet::Sheet;
-use std::fs::{self, File};
-use std::io::{self, ErrorKind, Read};
+use std::io::{self, ErrorKind};
 use std::panic;
 use std::path::Path;
 use std::process::ExitCode;
@@ -94,7 +96,7 @@ fn wrong(message: &str) -> ExitCode {
 
 /// Renders the sheet, and gives the exit status.
 fn render_sheet(asked: &Asked) -> Result<u8, String> {
-    let (text, read) = read_sheet(&asked.sheet)?;
+    let (text, read) = input::read(&asked.sheet)?;
     let shown = asked.sheet.display();
     let sheet = Sheet::new(&text).map_err(|error| format!("{shown}: {error}"))?;
     let ordered = lines::counted(&text);
@@ -105,16 +107,7 @@ fn render_sheet(asked: &Asked) -> Result<u8, String> {
     let folder = Folder::hold(&asked.folder, (asked.sheet.clone(), read))?;
     folder.look(ordered.div_ceil(page::ROWS))?;
     let stop = listen()?;
-    let unwritable = |error: io::Error| match error.kind() {
-        ErrorKind::OutOfMemory => "there is no memory for one job: give it some 40 MB".into(),
-        ErrorKind::StorageFull | ErrorKind::QuotaExceeded => {
-            let folder = asked.folder.display();
-            format!(
-                "{folder} has no room for the catalogue and its page: make some, and run this again"
-            )
-        }
-        _ => format!("{} cannot be written: {error}", asked.folder.display()),
-    };
+    let unwritable = |error| unwritten(&asked.folder, &error);
     let known = folder.known().map_err(unwritable)?;
     let (settings, is_forced) = (&asked.settings, asked.is_forced);
     // A job more than there are notes would have nothing to do.
@@ -141,6 +134,18 @@ fn render_sheet(asked: &Asked) -> Result<u8, String> {
     })
 }
 
+/// Why a folder could not be written, and what to do.
+fn unwritten(folder: &Path, error: &io::Error) -> String {
+    let folder = folder.display();
+    match error.kind() {
+        ErrorKind::OutOfMemory => "there is no memory for one job: give it some 40 MB".into(),
+        ErrorKind::StorageFull | ErrorKind::QuotaExceeded => format!(
+            "{folder} has no room for the catalogue and its page: make some, and run this again"
+        ),
+        _ => format!("{folder} cannot be written: {error}"),
+    }
+}
+
 /// Listens to signals, and lets no worker speak by itself.
 fn listen() -> Result<Stop, String> {
     hush_workers();
@@ -155,31 +160,4 @@ fn hush_workers() {
             loud(info);
         }
     }));
-}
-
-/// The most bytes of a sheet.
-const MOST_BYTES: u64 = 1 << 30;
-
-/// The sheet's text, and which file it is.
-fn read_sheet(sheet: &Path) -> Result<(Vec<u8>, Identity), String> {
-    let shown = sheet.display();
-    let unreadable = |error| format!("{shown} cannot be read: {error}");
-    let is_input = sheet == Path::new("-");
-    let path = if is_input { Path::new("/dev/stdin") } else { sheet };
-    let input: Box<dyn Read> = if is_input {
-        Box::new(io::stdin().lock())
-    } else {
-        Box::new(File::open(path).map_err(unreadable)?)
-    };
-    if fs::metadata(path).is_ok_and(|data| data.is_dir()) {
-        return Err(format!("{shown} is a folder: name a CSV file"));
-    }
-    // A pipe that is gone is no file of the folder.
-    let read = folder::identity(path).unwrap_or_default();
-    let mut text = Vec::new();
-    input.take(MOST_BYTES + 1).read_to_end(&mut text).map_err(unreadable)?;
-    if text.len() as u64 > MOST_BYTES {
-        return Err(format!("{shown} is longer than {MOST_BYTES} bytes: split it"));
-    }
-    Ok((text, read))
 }

@@ -165,7 +165,8 @@ fn waveform(rendered: &Rendered, name: &str) -> String {
         path += &format!("M{x}.5 {:.1}V{:.1}", place(*high) - 0.3, place(*low) + 0.3);
     }
     format!(
-        "<svg viewBox=\"0 0 {COLUMNS} 48\" preserveAspectRatio=\"none\" role=\"img\" aria-label=\"Waveform of {name}\"><path d=\"{path}\" stroke=\"currentColor\"/></svg>"
+        "<svg viewBox=\"0 0 {COLUMNS} 48\" preserveAspectRatio=\"none\" role=\"img\" \
+         aria-label=\"Waveform of {name}\"><path d=\"{path}\" stroke=\"currentColor\"/></svg>"
     )
 }
 

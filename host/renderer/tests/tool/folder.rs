@@ -110,7 +110,8 @@ fn a_catalogue_of_the_version_before_lists_its_files_without_checksums() {
     let folder = Folder::new("before");
     let out = folder.path("notes");
     fs::create_dir_all(&out).expect("a folder is made");
-    let catalogue = "name,status,file,frames,peak,burst,dust,dispersion,number,knob,value,range,reason\npluck,rendered,pluck.wav,2400,0.5,2,0,0,,,,,\nold,rendered,old.wav,2,0.5,2,0,0,,,,,\n";
+    let catalogue = "name,status,file,frames,peak,burst,dust,dispersion,number,knob,value,range,reason\n\
+        pluck,rendered,pluck.wav,2400,0.5,2,0,0,,,,,\nold,rendered,old.wav,2,0.5,2,0,0,,,,,\n";
     for (name, text) in [("catalogue.csv", catalogue), ("pluck.wav", "x"), ("old.wav", "y")] {
         fs::write(out.join(name), text).expect("a file is written");
     }

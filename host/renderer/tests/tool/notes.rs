@@ -17,7 +17,8 @@ fn a_good_sheet_is_rendered_whole() {
     assert_eq!(lines.len(), 6);
     assert!(lines[1].starts_with("pluck,rendered,pluck.wav,2400,0."), "{}", lines[1]);
     assert!(lines[4].starts_with("\"bowl, rubbed\",rendered,\"bowl, rubbed.wav\",960,"));
-    let nothing = "nothing,rendered,nothing.wav,0,0,0,0,0,,,,,,6,,,0.000,it is empty: write more than 0 in seconds,modal,C4,0,trigger,0.5,0.2,0.6,0.7,0,48000,24,wav float32,1,gain=0,10,0.1.0 libsndfile-";
+    let nothing = "nothing,rendered,nothing.wav,0,0,0,0,0,,,,,,6,,,0.000,it is empty: write more than 0 in seconds,\
+        modal,C4,0,trigger,0.5,0.2,0.6,0.7,0,48000,24,wav float32,1,gain=0,10,0.1.0 libsndfile-";
     assert!(lines[5].starts_with(nothing), "{}", lines[5]);
     assert!(lines[5].ends_with(&sha256(&out.join("nothing.wav"))), "{}", lines[5]);
     let page = fs::read_to_string(out.join("index.html")).expect("the page is read");
