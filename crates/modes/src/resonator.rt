@@ -510,6 +510,7 @@ impl Resonator {
     {
         let k = modes_for(self.mode_amplitude, f0, structure, brightness, damping);
         let mut states = States::from(self.mode_filters);
+        let around = around & states.any_small();
         if around {
             run_frames::<true>(&k, &mut states, in_, out);
         } else {
