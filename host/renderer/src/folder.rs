@@ -2,8 +2,8 @@
 
 use crate::catalogue;
 use crate::known::Known;
-use crate::page;
 use crate::part::{PREFIX, SUFFIX};
+use crate::piece;
 use crate::report::complain;
 use crate::sfz;
 use std::fs::{self, File, TryLockError};
@@ -63,15 +63,15 @@ impl Folder {
         found.is_some() && (found == Some(*read) || found == identity(sheet))
     }
 
-    /// Looks that neither the catalogue nor one of so many pages is written over what no run wrote.
-    pub fn look(&self, pages: usize) -> Result<(), String> {
+    /// Looks that neither the catalogue nor a file of the page of so many notes is written over what no run wrote.
+    pub fn look(&self, ordered: usize) -> Result<(), String> {
         let name = self.sheet.0.file_name().unwrap_or_default().to_string_lossy();
         if name.starts_with(PREFIX) {
             return Err(format!("the sheet's name begins with {PREFIX}, as parts do: rename it"));
         }
         self.look_at(catalogue::FILE, catalogue::is_ours)?;
         self.look_at(sfz::FILE, sfz::is_ours)?;
-        (1..=pages).try_for_each(|number| self.look_at(&page::file(number), page::is_ours))
+        piece::files(ordered).try_for_each(|name| self.look_at(&name, piece::is_ours))
     }
 
     fn look_at(&self, name: &str, is_ours: fn(&[u8]) -> bool) -> Result<(), String> {

@@ -9,10 +9,13 @@ mod chance;
 mod checksum;
 mod claim;
 mod command;
+mod data;
+mod deflate;
 mod folder;
 mod format;
 mod help;
 mod input;
+mod fourier;
 mod known;
 mod levels;
 mod lines;
@@ -25,7 +28,9 @@ mod output;
 mod page;
 mod pages;
 mod part;
+mod piece;
 mod pitch;
+mod png;
 mod progress;
 #[cfg(test)]
 mod random_sheets;
@@ -38,6 +43,7 @@ mod sfz;
 mod shape;
 mod sheet;
 mod sndfile;
+mod spectrum;
 mod stop;
 #[cfg(test)]
 mod tests;
@@ -105,7 +111,7 @@ fn render_sheet(asked: &Asked) -> Result<u8, String> {
         return Ok(REFUSED);
     }
     let folder = Folder::hold(&asked.folder, (asked.sheet.clone(), read))?;
-    folder.look(ordered.div_ceil(page::ROWS))?;
+    folder.look(ordered)?;
     let stop = listen()?;
     let unwritable = |error| unwritten(&asked.folder, &error);
     let known = folder.known().map_err(unwritable)?;

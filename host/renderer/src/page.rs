@@ -1,4 +1,4 @@
-//! The catalogue as pages: no network and no script.
+//! The catalogue as pages: without a script a table of some notes, with it one of all.
 
 use crate::catalogue::file_of;
 use crate::levels::Told;
@@ -7,9 +7,6 @@ use crate::outcome::{Outcome, Rendered, Sum};
 use crate::settings::Settings;
 use crate::sheet::COLUMNS as NAMES;
 use crate::wave::COLUMNS;
-
-/// The first page's file.
-pub const FILE: &str = "index.html";
 
 /// What every page of every version begins with.
 const MARK: &str = "<!DOCTYPE html>
@@ -23,26 +20,35 @@ pub fn is_ours(beginning: &[u8]) -> bool {
     beginning.starts_with(MARK.as_bytes())
 }
 
-const HEAD: &str = "<!DOCTYPE html>
+const HEAD: &str = concat!(
+    "<!DOCTYPE html>
 <html lang=\"en\">
 <meta charset=\"utf-8\">
 <meta name=\"viewport\" content=\"width=device-width\">
 <title>Catalogue</title>
 <style>
-body { font: 16px/1.5 system-ui, sans-serif; margin: 2rem auto; max-width: 66rem; padding: 0 1rem; color: #222; background: #fff }
-table { border-collapse: collapse; width: 100% }
-th, td { text-align: left; padding: .4rem .8rem .4rem 0; border-top: 1px solid #ddd; vertical-align: middle }
-thead th { border-top: none }
-tbody th { white-space: nowrap }
-svg { display: block; width: 15rem; height: 3rem; color: #2b6c8f }
-audio { width: 16rem }
-.refused td, .refused th { background: #fff4f0 }
-nav a, nav span { margin-right: .5rem }
-nav span { color: #999 }
-.knobs { font-size: .9rem; color: #555 }
-</style>
+",
+    include_str!("../page/style.css"),
+    "</style>
+<script>
+",
+    include_str!("../page/notes.js"),
+    include_str!("../page/chunks.js"),
+    include_str!("../page/draw.js"),
+    include_str!("../page/table.js"),
+    include_str!("../page/player.js"),
+    include_str!("../page/keys.js"),
+    include_str!("../page/begin.js"),
+    "</script>
+",
+    include_str!("../page/live.html"),
+    "<main id=\"still\">
 <h1>Catalogue</h1>
-";
+"
+);
+
+/// The first page's file.
+const FILE: &str = "index.html";
 
 /// The notes of a page.
 pub const ROWS: usize = 250;
@@ -55,7 +61,11 @@ pub const SUM_AT: u64 = HEAD.len() as u64;
 pub const FRAME: usize = HEAD.len() + SUM + 1500;
 
 /// The bytes that a note's row may have beyond one that was not rendered: its waveform and its player, or a reason.
-pub const MORE: usize = COLUMNS * 18 + 2000;
+pub const MORE: usize = DRAWN * 10 + 1600;
+
+/// The columns of a waveform as a page draws it, and its height.
+const DRAWN: usize = COLUMNS / 2;
+const HEIGHT: f32 = 48.0;
 
 /// The file of a page.
 pub fn file(number: usize) -> String {
@@ -83,7 +93,8 @@ pub fn begin(number: usize, pages: usize, ordered: usize) -> String {
 
 /// The end of a page.
 pub fn end(number: usize, pages: usize) -> String {
-    format!("</table>\n{}", if pages == 1 { String::new() } else { links(number, pages) })
+    let links = if pages == 1 { String::new() } else { links(number, pages) };
+    format!("</table>\n{links}</main>\n")
 }
 
 /// The way to the pages around one.
@@ -152,21 +163,22 @@ fn knob((name, value): (&&str, &String)) -> String {
     format!("{name} {}", escaped(value.trim()))
 }
 
-/// The waveform as a picture, from its lowest to its highest samples, as high as its peak.
+/// The waveform as a picture on the scale of full scale, from its lowest to its highest samples.
 fn waveform(rendered: &Rendered, name: &str) -> String {
     let Some(wave) = &rendered.wave else { return String::new() };
-    let scale = if rendered.peak > 0.0 { 23.0 / rendered.peak } else { 0.0 };
-    let place = |sample: f32| {
-        let height = 24.0 - sample * scale;
-        if height.is_finite() { height } else { 24.0 }
-    };
-    let mut path = String::new();
-    for (x, [low, high]) in wave.columns.iter().enumerate() {
-        path += &format!("M{x}.5 {:.1}V{:.1}", place(*high) - 0.3, place(*low) + 0.3);
+    let place =
+        |sample: f32| ((1.0 - sample.clamp(-1.0, 1.0)) * (HEIGHT / 2.0 - 1.0)).round() as i32;
+    let (mut path, mut last) = (String::from("M-.5 0"), 0);
+    for pair in wave.columns.chunks(2) {
+        let high = place(pair.iter().fold(0.0, |high, [_, next]| next.max(high)));
+        let low = place(pair.iter().fold(0.0, |low, [next, _]| next.min(low)));
+        path += &format!("m1 {}v{}", high - last, low - high + 1);
+        last = low + 1;
     }
+    let path = path.replace(" -", "-");
+    let hot = if rendered.peak > 1.0 { " class=\"hot\"" } else { "" };
     format!(
-        "<svg viewBox=\"0 0 {COLUMNS} 48\" preserveAspectRatio=\"none\" role=\"img\" \
-         aria-label=\"Waveform of {name}\"><path d=\"{path}\" stroke=\"currentColor\"/></svg>"
+        "<svg{hot} viewBox=\"0 0 {DRAWN} {HEIGHT}\" preserveAspectRatio=\"none\" role=\"img\" aria-label=\"Waveform of {name}\"><path d=\"{path}\"/></svg>"
     )
 }
 

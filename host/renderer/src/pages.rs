@@ -1,60 +1,91 @@
-//! The pages of a catalogue: a browser opens one, however many notes there are.
+//! The page in the making: a browser opens as much of it as is looked at, however many notes there are.
 
 use crate::folder::Folder;
-use crate::outcome::Sum;
-use crate::page::{self, ROWS};
+use crate::order::Order;
+use crate::outcome::{Outcome, Sum};
+use crate::page;
 use crate::part::{Part, Whole};
-use std::fs;
-use std::io::{self, Write};
+use crate::piece::{self, Notes, PIECES, Piece};
+use crate::room::Room;
+use crate::settings::Settings;
+use std::fs::{self, File};
+use std::io::{self, Read, Write};
 
-/// The pages in the making.
+/// All files of the page.
 pub struct Pages {
+    series: Vec<Series>,
+}
+
+/// The files of one kind.
+struct Series {
+    piece: Piece,
+    notes: Notes,
     /// Those that have their room and no rows yet, the first behind.
     empty: Vec<Whole>,
     written: Vec<Whole>,
-    /// The page that rows go to, its rows and its bytes.
+    /// The file that rows go to, its rows and its bytes.
     open: Option<(Part, usize, u64)>,
-    pages: usize,
-    ordered: usize,
 }
 
 impl Pages {
-    /// Makes sure of the room of each page, for so many notes in all.
-    pub fn begin(folder: &Folder, rooms: &[u64], ordered: usize) -> io::Result<Self> {
-        let path = |place: usize| folder.file(&page::file(place + 1));
-        let rooms = rooms.iter().enumerate().rev();
-        let empty = rooms.map(|(place, room)| Part::with_room(&path(place), *room)?.close());
-        let empty: Vec<Whole> = empty.collect::<io::Result<_>>()?;
-        let pages = empty.len();
-        Ok(Pages { empty, written: vec![], open: None, pages, ordered })
+    /// Makes sure of the room of each file, for so many notes in all.
+    pub fn begin(
+        folder: &Folder,
+        room: &Room,
+        ordered: usize,
+        settings: &Settings,
+    ) -> io::Result<Self> {
+        let notes = Notes { ordered, settings: *settings };
+        let series = PIECES.iter().zip(&room.pieces);
+        let series = series.map(|(piece, rooms)| Series::begin(folder, *piece, rooms, notes));
+        Ok(Pages { series: series.collect::<io::Result<_>>()? })
     }
 
-    /// Adds the row of a note.
-    pub fn row(&mut self, row: &str) -> io::Result<()> {
+    /// Adds a note.
+    pub fn note(&mut self, order: &Order, outcome: &Outcome) -> io::Result<()> {
+        self.series.iter_mut().try_for_each(|series| series.note(order, outcome))
+    }
+
+    /// Ends the last files, and writes the sum on the first page.
+    pub fn close(self, sum: &Sum) -> io::Result<Written> {
+        let series = self.series.into_iter().map(|series| series.close(sum));
+        Ok(Written { series: series.collect::<io::Result<_>>()? })
+    }
+}
+
+impl Series {
+    fn begin(folder: &Folder, piece: Piece, rooms: &[u64], notes: Notes) -> io::Result<Self> {
+        let path = |place: usize| folder.file(&piece.file(place + 1));
+        let rooms = rooms.iter().enumerate().rev();
+        let empty = rooms.map(|(place, room)| Part::with_room(&path(place), *room)?.close());
+        let empty = empty.collect::<io::Result<_>>()?;
+        Ok(Series { piece, notes, empty, written: vec![], open: None })
+    }
+
+    fn note(&mut self, order: &Order, outcome: &Outcome) -> io::Result<()> {
         if self.open.is_none() {
             self.turn()?;
         }
-        self.write(row)?;
+        self.write(&self.piece.row(order, outcome, &self.notes.settings))?;
         if let Some((_, rows, _)) = &mut self.open {
             *rows += 1;
-            if *rows == ROWS {
+            if *rows == self.piece.rows() {
                 self.shut()?;
             }
         }
         Ok(())
     }
 
-    /// Begins the next page.
+    /// Begins the next file.
     fn turn(&mut self) -> io::Result<()> {
         let whole = self.empty.pop().ok_or(io::ErrorKind::InvalidInput)?;
         self.open = Some((whole.open()?, 0, 0));
-        let number = self.written.len() + 1;
-        self.write(&page::begin(number, self.pages, self.ordered))
+        self.write(&self.piece.begin(self.written.len() + 1, &self.notes))
     }
 
-    /// Ends the page that is open.
+    /// Ends the file that is open.
     fn shut(&mut self) -> io::Result<()> {
-        self.write(&page::end(self.written.len() + 1, self.pages))?;
+        self.write(&self.piece.end(self.written.len() + 1, &self.notes))?;
         if let Some((part, _, bytes)) = self.open.take() {
             self.written.push(part.close_at(bytes)?);
         }
@@ -69,25 +100,42 @@ impl Pages {
         Ok(())
     }
 
-    /// Ends the last page, and writes the sum on the first.
-    pub fn close(mut self, sum: &Sum) -> io::Result<Vec<Whole>> {
+    fn close(mut self, sum: &Sum) -> io::Result<(Piece, Vec<Whole>)> {
         if self.open.is_some() {
             self.shut()?;
         }
-        if let Some(first) = self.written.first_mut() {
+        if self.piece == Piece::Page
+            && let Some(first) = self.written.first_mut()
+        {
             first.overwrite(page::SUM_AT, page::summed(sum).as_bytes())?;
         }
-        Ok(self.written)
+        Ok((self.piece, self.written))
     }
 }
 
-/// Gives pages their names, and removes those of an earlier run that had more.
-pub fn name(pages: Vec<Whole>, folder: &Folder) -> io::Result<()> {
-    let mut number = pages.len() + 1;
-    pages.into_iter().try_for_each(Whole::name)?;
-    while fs::read(folder.file(&page::file(number))).is_ok_and(|text| page::is_ours(&text)) {
-        fs::remove_file(folder.file(&page::file(number)))?;
-        number += 1;
+/// The page's files, whole and without their names.
+pub struct Written {
+    series: Vec<(Piece, Vec<Whole>)>,
+}
+
+impl Written {
+    /// Gives the files their names, and removes those of an earlier run that had more.
+    pub fn name(self, folder: &Folder) -> io::Result<()> {
+        for (piece, files) in self.series {
+            let mut number = files.len() + 1;
+            files.into_iter().try_for_each(Whole::name)?;
+            while piece != Piece::List && is_ours(folder, &piece.file(number)) {
+                fs::remove_file(folder.file(&piece.file(number)))?;
+                number += 1;
+            }
+        }
+        Ok(())
     }
-    Ok(())
+}
+
+/// Whether a file is there and of this tool.
+fn is_ours(folder: &Folder, name: &str) -> bool {
+    let Ok(file) = File::open(folder.file(name)) else { return false };
+    let mut beginning = Vec::new();
+    file.take(1000).read_to_end(&mut beginning).is_ok() && piece::is_ours(&beginning)
 }

@@ -3,14 +3,14 @@
 use crate::catalogue;
 use crate::order::Orders;
 use crate::outcome::Outcome;
-use crate::page::{self, ROWS};
+use crate::piece::PIECES;
 use crate::settings::Settings;
 use crate::sfz;
 
 pub struct Room {
     pub catalogue: u64,
-    /// Of each page.
-    pub pages: Vec<u64>,
+    /// Of each file of the page.
+    pub pieces: [Vec<u64>; PIECES.len()],
     pub sfz: u64,
 }
 
@@ -18,23 +18,24 @@ impl Room {
     /// The room for orders whatever becomes of them.
     pub fn of(orders: Orders, settings: &Settings) -> Self {
         let [catalogue, sfz] = [catalogue::HEADER, sfz::HEADER].map(|text| text.len() as u64 + 1);
-        let mut room = Room { catalogue, pages: vec![], sfz };
+        let mut room = Room { catalogue, pieces: Default::default(), sfz };
         for (place, order) in orders.enumerate() {
             let outcome = Outcome::unplayed(&order);
             let is_played = order.note.is_ok();
             let line = catalogue::line(&order, &outcome, settings).len();
-            let row = page::row(&order, &outcome, settings).len();
             let more = |bytes: usize| if is_played { bytes } else { 0 };
             room.catalogue += (line + 1 + more(catalogue::MORE)) as u64;
             if is_played {
                 let file = catalogue::file_of(order.name(), settings.format);
                 room.sfz += sfz::region(&order, &file).len() as u64 + 1;
             }
-            if place % ROWS == 0 {
-                room.pages.push(page::FRAME as u64);
-            }
-            if let Some(page) = room.pages.last_mut() {
-                *page += (row + more(page::MORE)) as u64;
+            for (piece, files) in PIECES.iter().zip(&mut room.pieces) {
+                if place % piece.rows() == 0 {
+                    files.push(piece.frame());
+                }
+                if let Some(file) = files.last_mut() {
+                    *file += piece.most(&order, settings) as u64;
+                }
             }
         }
         room
@@ -43,22 +44,30 @@ impl Room {
 
 #[cfg(test)]
 mod tests {
-    use super::Room;
+    use super::{PIECES, Room};
     use crate::catalogue;
+    use crate::chance::Chance;
     use crate::checksum::Summing;
     use crate::levels::Told;
     use crate::order::Orders;
     use crate::outcome::{Outcome, Rendered, Sum};
     use crate::page;
+    use crate::piece::Notes;
     use crate::sheet::{COLUMNS, Sheet};
     use crate::tests::SETTINGS;
     use crate::wave::Wave;
     use std::io;
 
+    const NOTES: Notes = Notes { ordered: 100_000, settings: SETTINGS };
+
     /// A note whose every number is as long as it can be.
     fn long() -> Outcome {
-        let mut wave = Wave::new(960);
-        (0..960).for_each(|k| wave.add(&[if k % 2 == 0 { -0.999 } else { 0.999 }]));
+        let (mut wave, mut chance) = (Wave::new(96_000), Chance(7));
+        for k in 0..96_000 {
+            // Louder and softer noise, so that no row of the spectrogram is like another.
+            let level = 0.999 * chance.part().powi(k / 800 % 7) as f32;
+            wave.add(&[if k % 2 == 0 { -level } else { level }]);
+        }
         let most = u64::MAX;
         Outcome::Kept(Box::new(Rendered {
             frames: most,
@@ -96,17 +105,24 @@ mod tests {
         let outcomes: [&dyn Fn() -> Outcome; 4] =
             [&long, &|| Outcome::unwritten(&error), &stopped, &way];
         for outcome in outcomes {
-            let [mut lines, mut rows] = [0; 2];
+            let (mut lines, mut rows) = (0, [0; PIECES.len()]);
             for order in orders() {
                 let outcome =
                     if order.note.is_ok() { outcome() } else { Outcome::unplayed(&order) };
                 lines += catalogue::line(&order, &outcome, &SETTINGS).len() + 1;
-                rows += page::row(&order, &outcome, &SETTINGS).len();
+                for (piece, rows) in PIECES.iter().zip(&mut rows) {
+                    let row = piece.row(&order, &outcome, &SETTINGS).len();
+                    assert!(row <= piece.most(&order, &SETTINGS), "{piece:?}: {row}");
+                    *rows += row as u64;
+                }
             }
             assert!((catalogue::HEADER.len() + 1 + lines) as u64 <= room.catalogue, "{lines}");
-            let frame = page::begin(399, 400, 100_000).len() + page::end(399, 400).len();
-            assert!((frame + page::summed(&Sum::default()).len()) <= page::FRAME);
-            assert!((page::FRAME + rows) as u64 <= room.pages[0], "{rows}");
+            for ((piece, rows), rooms) in PIECES.iter().zip(rows).zip(&room.pieces) {
+                let frame = piece.begin(399, &NOTES).len() + piece.end(399, &NOTES).len();
+                let sum = page::summed(&Sum::default()).len();
+                assert!((frame + sum) as u64 <= piece.frame(), "{piece:?}: {frame}");
+                assert!(piece.frame() + rows <= rooms[0], "{piece:?}: {rows}");
+            }
         }
     }
 }

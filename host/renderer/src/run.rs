@@ -7,8 +7,7 @@ use crate::known::{Known, Stale};
 use crate::name::key;
 use crate::order::{Order, Orders};
 use crate::outcome::{Outcome, Rendered, Sum};
-use crate::page;
-use crate::pages::{self, Pages};
+use crate::pages::Pages;
 use crate::part::Lines;
 use crate::render::render;
 use crate::room::Room;
@@ -76,7 +75,7 @@ impl Run<'_> {
     ) -> io::Result<(Sum, Stale)> {
         let orders = || Orders::new(sheet.clone(), self.settings);
         let room = Room::of(orders(), self.settings);
-        let pages = Pages::begin(self.folder, &room.pages, self.ordered)?;
+        let pages = Pages::begin(self.folder, &room, self.ordered, self.settings)?;
         let catalogue = self.folder.file(catalogue::FILE);
         let mut journal = Lines::begin(&catalogue, room.catalogue, catalogue::HEADER)?;
         journal.leave();
@@ -93,7 +92,7 @@ impl Run<'_> {
         let Written { journal, pages, sfz, sum, files } = written;
         let (pages, sfz, journal) = (pages.close(&sum)?, sfz.close()?, journal.close()?);
         let stale = self.known.remove_stale(self.folder, &files);
-        pages::name(pages, self.folder)?;
+        pages.name(self.folder)?;
         sfz.name()?;
         journal.name()?;
         self.folder.finish()?;
@@ -117,7 +116,7 @@ impl Run<'_> {
             written.sfz.line(&sfz::region(order, &self.file_of(order)))?;
         }
         written.sum.add(order, &outcome);
-        written.pages.row(&page::row(order, &outcome, self.settings))
+        written.pages.note(order, &outcome)
     }
 
     /// The outcome, where its file's name is free; of a note that failed or that a stop left, that of the run before.

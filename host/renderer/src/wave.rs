@@ -1,4 +1,6 @@
-//! The waveform of a note as it is drawn.
+//! The waveform of a note as it is drawn, with its spectrogram.
+
+use crate::spectrum::Spectrum;
 
 /// The columns of a drawn waveform.
 pub const COLUMNS: usize = 240;
@@ -6,6 +8,7 @@ pub const COLUMNS: usize = 240;
 /// The lowest and the highest sample of each column.
 pub struct Wave {
     pub columns: Vec<[f32; 2]>,
+    pub spectrum: Spectrum,
     frames: u64,
     done: u64,
 }
@@ -13,11 +16,13 @@ pub struct Wave {
 impl Wave {
     /// The waveform of so many frames, of which none is heard yet.
     pub fn new(frames: u64) -> Self {
-        Wave { columns: vec![[0.0; 2]; COLUMNS], frames, done: 0 }
+        let (columns, spectrum) = (vec![[0.0; 2]; COLUMNS], Spectrum::new(frames));
+        Wave { columns, spectrum, frames, done: 0 }
     }
 
     /// Adds the next samples.
     pub fn add(&mut self, samples: &[f32]) {
+        self.spectrum.add(samples);
         let columns = COLUMNS as u64;
         let mut rest = samples;
         while !rest.is_empty() {

@@ -83,7 +83,7 @@ fn full(folder: &Folder, kilobytes: usize, jobs: usize, format: &str) -> Option<
         assert_eq!(rendered + failed, 30);
         assert_eq!(lines(&out).len(), 31);
         let page = fs::read_to_string(out.join("index.html")).expect("the page is read");
-        assert!(page.ends_with("</table>\n") && page.matches("<tr").count() == 31);
+        assert!(page.ends_with("</table>\n</main>\n") && page.matches("<tr").count() == 31);
         is_clean(&out);
     }
     assert!(small.mount("remount,size=20000k", "tmpfs"));
@@ -103,7 +103,7 @@ fn a_full_disk_has_its_catalogue_and_fails_what_it_cannot_hold() {
             None => return,
         }
     }
-    for kilobytes in (350..1000).step_by(150) {
+    for kilobytes in (500..1100).step_by(150) {
         assert_eq!(full(&folder, kilobytes, 2, "flac"), Some(3), "{kilobytes}");
     }
     for status in [0, 2, 3] {

@@ -1,6 +1,8 @@
 //! What a run makes of a folder: nothing is written over, kept wrongly or left stale.
 
-use crate::run::{Folder, GOOD, HEADER, files, is_clean, lines, said, signal, started, tool};
+use crate::run::{
+    BESIDE, Folder, GOOD, HEADER, files, is_clean, lines, said, signal, started, tool, with_notes,
+};
 use std::ffi::OsStr;
 use std::fs;
 use std::io::Write;
@@ -93,15 +95,7 @@ fn a_file_that_no_row_renders_is_removed_if_it_is_ours() {
     );
     assert!(error.contains("left: bow.wav: this sheet does not render it"), "{error}");
     let names: Vec<String> = files(&out).into_keys().collect();
-    let left = [
-        "bow.wav",
-        "catalogue.csv",
-        "index.html",
-        "mine.wav",
-        "notes.sfz",
-        "nothing.wav",
-        "pluck.wav",
-    ];
+    let left = with_notes(&["bow.wav", "mine.wav", "nothing.wav", "pluck.wav"]);
     assert_eq!(names, left);
 }
 
@@ -182,7 +176,7 @@ fn a_sheet_on_standard_input_is_written_over_by_nothing() {
 fn files_that_no_run_wrote_are_left() {
     let folder = Folder::new("foreign");
     let sheet = folder.sheet(GOOD);
-    for name in ["catalogue.csv", "index.html", "notes.sfz"] {
+    for name in BESIDE {
         let out = folder.path(name);
         fs::create_dir_all(&out).expect("a folder is made");
         fs::write(out.join(name), "mine").expect("a file is written");

@@ -91,6 +91,23 @@ pub fn long(notes: usize) -> String {
     (0..notes).map(row).collect()
 }
 
+/// The files beside the notes, where these are one page.
+pub const BESIDE: [&str; 6] = [
+    "catalogue.csv",
+    "index-list.js",
+    "index-spectra-1.js",
+    "index-waves-1.js",
+    "index.html",
+    "notes.sfz",
+];
+
+/// The notes' files of a folder, and those that lie beside them.
+pub fn with_notes(notes: &[&str]) -> Vec<String> {
+    let mut names: Vec<String> = notes.iter().chain(&BESIDE).map(|name| name.to_string()).collect();
+    names.sort();
+    names
+}
+
 /// No file but whole notes that the catalogue lists, the catalogue and the page.
 pub fn is_clean(folder: &Path) {
     let lines = lines(folder);
