@@ -13,9 +13,12 @@ from sheet import sheet  # noqa: E402
 
 NOTES = 700
 SPACE, ENTER, ESCAPE, UP, DOWN = " ", "\ue007", "\ue00c", "\ue013", "\ue015"
-NAMES = "return [...document.querySelectorAll('#rows .row:not([hidden])')].sort((a, b) => a.ariaRowIndex - b.ariaRowIndex).map(row => row.querySelector('.name b').textContent)"
+ROW = "#rows .row:not([hidden])"
+ROWS = f"[...document.querySelectorAll('{ROW}')]"
+NAMES = f"return {ROWS}.sort((a, b) => a.ariaRowIndex - b.ariaRowIndex).map(row => row.querySelector('.name b').textContent)"
 CURRENT = "return document.querySelector('#rows [aria-current] .name b')?.textContent"
 TIME = "document.getElementById('audio').currentTime"
+NARROW = "document.documentElement.scrollWidth <= innerWidth"
 PAUSED = "document.getElementById('audio').paused"
 
 
@@ -39,6 +42,10 @@ def render(tool, folder):
 
 def choose(browser, selector, value):
     browser.run(f"const e = document.querySelector('{selector}'); e.value = '{value}'; e.dispatchEvent(new Event('input'))")
+
+
+def edges(browser, element):
+    return browser.run(f"const box = {element}.getBoundingClientRect(); return [box.top, box.bottom, box.left, box.right, innerWidth, innerHeight]")
 
 
 def shown(browser):
@@ -79,13 +86,13 @@ def sorts(browser):
     choose(browser, "#sort", "place")
     browser.click("#first")
     same(browser.run(NAMES)[:5], ["too high", "no such kind", "empty", "too hot", "pluck 0"], "refused and warned first")
-    expect("must be 0.0458hz to 24000hz" in browser.run("return document.querySelector('#rows .refused').textContent"), "a refused note's reason")
+    expect("must be 0.0458hz to 24000hz" in browser.run("return document.querySelector('#rows .refused:not([hidden])').textContent"), "a refused note's reason")
     browser.click("#first")
 
 
 def plays(browser):
     browser.type("#search", "Änd")
-    browser.click("#rows .row .play button")
+    browser.click(f"{ROW} .play button")
     browser.wait(f"{TIME} > 0.1", "the note that is pressed plays: its time moves")
     same(browser.run("return document.getElementById('play').textContent"), "Stop", "the player's button")
     source = browser.run("return document.getElementById('audio').src")
@@ -107,8 +114,9 @@ def keys(browser):
     same(browser.run(CURRENT), "bell 16", "the arrows move")
     expect(browser.run("return document.activeElement.hasAttribute('aria-current')"), "the row has the focus")
     browser.press(*[DOWN] * 60)
-    last = browser.run("const box = document.activeElement.getBoundingClientRect(); return [box.top >= 0, box.bottom <= document.getElementById('dock').getBoundingClientRect().top + 1]")
-    same(last, [True, True], "the row that the arrows come to is seen")
+    top, bottom, *_ = edges(browser, "document.activeElement")
+    expect(top >= 0 and bottom <= edges(browser, "document.getElementById('dock')")[0] + 1, "the row that the arrows come to is seen")
+    browser.wait(f"{ROWS}.map(row => +row.ariaRowIndex).every((row, k, rows) => row - k === rows[0])", "the rows are there in their order")
     choose(browser, "#search", "Änd")
     browser.run("document.activeElement.blur()")
     browser.press(UP, SPACE)
@@ -121,13 +129,13 @@ def keys(browser):
 
 def pictures(browser):
     """Spectrograms are there now, and were not loaded before; a hot note looks hot."""
-    picture = "document.querySelector('#rows .row:not([hidden]) .picture img')"
+    picture = f"document.querySelector('{ROW} .picture img')"
     browser.wait(f"{picture}?.naturalWidth === 120 && {picture}.naturalHeight === 60", "a spectrogram")
     browser.press("s")
     choose(browser, "#search", "too hot")
-    browser.wait("document.querySelector('#rows .row:not([hidden]) .hot')?.getAttribute('d').length > 100", "a hot waveform")
+    browser.wait(f"document.querySelector('{ROW} .hot')?.getAttribute('d').length > 100", "a hot waveform")
     choose(browser, "#search", "bell 67")
-    browser.wait("document.querySelector('#rows .row:not([hidden]) svg path:nth-child(2)')?.getAttribute('d').length > 1000", "a waveform")
+    browser.wait(f"document.querySelector('{ROW} svg path:nth-child(2)')?.getAttribute('d').length > 1000", "a waveform")
     choose(browser, "#search", "")
 
 
@@ -136,9 +144,9 @@ def fits(browser):
     for width in [390, 1280]:
         browser.size(width, 844)
         browser.run("scrollTo(0, 20000)")
-        same(browser.run("scrollTo(90, scrollY); return [scrollX, document.documentElement.scrollWidth <= innerWidth]"), [0, True], f"{width} pixels do not scroll sideways")
-        box = browser.run("const box = document.getElementById('play').getBoundingClientRect(); return [box.left >= 0, box.right <= innerWidth, box.bottom <= innerHeight, box.height >= 44]")
-        same(box, [True] * 4, f"the player's button at {width} pixels")
+        same(browser.run(f"scrollTo(90, scrollY); return [scrollX, {NARROW}]"), [0, True], f"{width} pixels do not scroll sideways")
+        top, bottom, left, right, wide, high = edges(browser, "document.getElementById('play')")
+        expect(left >= 0 and right <= wide and bottom <= high and bottom - top >= 44, f"the player's button is whole at {width} pixels")
 
 
 def without_script(browser, address):
@@ -146,9 +154,10 @@ def without_script(browser, address):
     browser.scripts(False)
     browser.open(address.replace("index", "index-3"))
     browser.scripts(True)
-    rows = "return [document.querySelectorAll('#still tbody tr').length, document.getElementById('still').offsetHeight > 1000, document.getElementById('live').offsetHeight]"
-    same(browser.run(rows), [NOTES - 500, True, 0], "the rows without a script")
-    same(browser.run("return document.documentElement.scrollWidth <= innerWidth"), True, "it does not scroll sideways")
+    rows = browser.run("return ['#still tbody tr', '#still audio'].map(of => document.querySelectorAll(of).length)")
+    same(rows, [NOTES - 500] * 2, "the rows and their players without a script")
+    same(browser.run("return document.getElementById('live').offsetHeight"), 0, "the height of what needs a script")
+    same(browser.run(f"return {NARROW}"), True, "it does not scroll sideways")
 
 
 def without_list(browser, folder):
@@ -164,7 +173,7 @@ def run(tool, folder):
     try:
         browser.size(1280, 900)
         browser.open(address)
-        browser.wait("document.querySelector('#rows .row')", "the rows")
+        browser.wait(f"{ROWS}.length > 0", "the rows")
         loaded = browser.run("return chunks.spectra.size")
         for part in [searches, sorts, plays, keys, pictures, fits]:
             part(browser)

@@ -1,4 +1,4 @@
-// Begins once the page is there; where the list of notes is not, the table without a script stays.
+// The controls, and the beginning once the page is there; where its list is not, the table without a script stays.
 function turnSpectra() {
   isSpectral = !isSpectral;
   byId('spectra').setAttribute('aria-pressed', isSpectral);
@@ -36,15 +36,11 @@ function begin() {
   byId('sum').textContent = summed();
   showChosen();
   addEventListener('scroll', () => drawRows(false), { passive: true });
-  addEventListener('resize', showChosen);
+  addEventListener('resize', layOut);
   document.addEventListener('keydown', onKey);
-  if (catalogue.shown.length > 0) select(0, false);
+  select(0, false);
 }
 
-const fallBack = () => { document.documentElement.className = ''; };
-
 document.addEventListener('DOMContentLoaded', () => {
-  load('index-list.js', fallBack);
-  const list = catalogue.list;
-  catalogue.list = (head, rows) => { list(head, rows); begin(); };
+  load('index-list.js', () => { document.documentElement.className = ''; });
 });

@@ -19,17 +19,16 @@ function load(file, missing) {
   document.head.append(script);
 }
 
-// A note's row of a kind: text where it is there, and otherwise nothing yet, and its file is asked for.
-function chunkRow(kind, note) {
+// A note's row of a kind: a text where it is there, and nothing where its file is not yet, which may be asked for.
+function chunkRow(kind, note, isAsked) {
   const number = Math.floor(note.place / catalogue.head.rows) + 1;
   const rows = chunks[kind].get(number);
-  if (rows === undefined) {
+  if (rows === undefined && isAsked) {
     chunks[kind].set(number, null);
     load(`index-${kind}-${number}.js`, () => chunks[kind].set(number, []));
     forget(kind);
-    return null;
   }
-  if (rows === null) return null;
+  if (!rows) return null;
   // The last that were looked at are kept.
   chunks[kind].delete(number);
   chunks[kind].set(number, rows);

@@ -39,19 +39,18 @@ function spectrogram(letters, name) {
 const ESCAPES = { '&': '&amp;', '<': '&lt;', '>': '&gt;', '"': '&quot;' };
 const escaped = (text) => text.replace(/[&<>"]/g, (letter) => ESCAPES[letter]);
 
-// Draws a note's picture where it is not drawn yet.
-function draw(place, note) {
+// Draws a note's picture where it is not drawn yet, and asks for its file where that is wanted.
+function draw(place, note, isAsked) {
   const wanted = note && hasSound(note) ? `${isSpectral} ${note.place}` : '';
   if (place.dataset.drawn === wanted) return;
-  const letters = wanted && chunkRow(isSpectral ? 'spectra' : 'waves', note);
+  const letters = wanted && chunkRow(isSpectral ? 'spectra' : 'waves', note, isAsked);
   place.dataset.drawn = letters === null ? '' : wanted;
-  if (!letters) { place.textContent = ''; return; }
   const picture = isSpectral ? spectrogram : waveform;
-  place.innerHTML = picture(letters, escaped(note.name));
+  place.innerHTML = letters ? picture(letters, escaped(note.name)) : '';
 }
 
 // Draws the pictures of the rows that are seen, and the player's.
 function drawPictures() {
-  for (const row of table.rows) if (row.note) draw(row.picture, row.note);
-  draw(byId('picture'), player.note);
+  for (const row of table.rows) if (row.note) draw(row.picture, row.note, true);
+  draw(byId('picture'), player.note, true);
 }

@@ -2,7 +2,10 @@
 document.documentElement.className = 'live';
 // The notes of the sheet, and those that are shown, in their order.
 const catalogue = { head: {}, notes: [], shown: [] };
-const FIELDS = ['name', 'state', 'line', 'kind', 'note', 'seconds', 'play', 'accent', 'structure', 'brightness', 'damping', 'pitch', 'peak', 'loudness', 'words', 'number'];
+const FIELDS = [
+  'name', 'state', 'line', 'kind', 'note', 'seconds', 'play', 'accent', 'structure', 'brightness', 'damping',
+  'pitch', 'peak', 'loudness', 'words', 'number',
+];
 const STATES = ['rendered', 'refused', 'failed', 'not rendered'];
 
 const byId = (id) => document.getElementById(id);
@@ -10,7 +13,7 @@ const folded = (text) => text.normalize('NFC').toLowerCase();
 const hasSound = (note) => note.state === 0;
 const isWarned = (note) => hasSound(note) && note.words !== '';
 
-// The list's file calls this.
+// The list's file calls this with its rows, and the page begins.
 catalogue.list = (head, rows) => {
   catalogue.head = head;
   catalogue.notes = rows.map((row, place) => {
@@ -18,6 +21,7 @@ catalogue.list = (head, rows) => {
     FIELDS.forEach((field, k) => { note[field] = row[k]; });
     return note;
   });
+  begin();
 };
 
 // What a note is sorted by among those of its group; nothing comes last.

@@ -2,7 +2,6 @@
 const player = { note: null, isPlaying: false };
 
 const fileOf = (note) => encodeURIComponent(`${note.name}.${catalogue.head.ending}`);
-const seconds = (time) => (Number.isFinite(time) ? time.toFixed(1) : '0.0');
 
 // Selects a row, and plays it where the one before plays or where it is asked for.
 function select(index, isPlayed) {
@@ -25,7 +24,7 @@ function showNote(note) {
   byId('play').disabled = !hasSound(note);
   byId('seek').disabled = !hasSound(note);
   byId('large').hidden = !hasSound(note);
-  draw(byId('picture'), note);
+  draw(byId('picture'), note, true);
   showTime();
   document.documentElement.style.setProperty('--dock', `${byId('dock').offsetHeight + 16}px`);
 }
@@ -66,8 +65,6 @@ function toggle() {
   if (!player.note) select(0, false);
   if (!player.note || !hasSound(player.note)) return;
   if (player.isPlaying) { stop(); return; }
-  const audio = byId('audio');
-  if (audio.ended) audio.currentTime = 0;
   start();
 }
 
@@ -82,10 +79,11 @@ function showState() {
 }
 
 function showTime() {
-  const audio = byId('audio');
-  const length = audio.hasAttribute('src') ? audio.duration : Number(player.note && player.note.seconds);
+  const [audio, { note }] = [byId('audio'), player];
+  const length = audio.duration || Number(note.seconds);
   const part = audio.duration ? audio.currentTime / audio.duration : 0;
-  byId('time').textContent = player.note && hasSound(player.note) ? `${seconds(audio.currentTime)} of ${seconds(length || Number(player.note.seconds))} s` : '';
+  const times = [audio.currentTime, length].filter(Number.isFinite).map((time) => time.toFixed(1));
+  byId('time').textContent = hasSound(note) ? `${times.join(' of ')} s` : '';
   byId('seek').value = Math.round(part * 1000);
   byId('seek').setAttribute('aria-valuetext', byId('time').textContent);
   byId('head-line').style.left = `${part * 100}%`;

@@ -1,14 +1,15 @@
 // The rows that are seen, and no others, at their places among all that are shown.
 const MOST_ROWS = 140000;
 const SPARE_ROWS = 6;
-const table = { rows: [], first: -1, timer: 0 };
+const table = { rows: [], timer: 0 };
 
 const rowHeight = () => (matchMedia('(max-width: 60rem)').matches ? 116 : 64);
 
 function newRow() {
   const element = byId('row').content.firstElementChild.cloneNode(true);
   const cell = (name) => element.querySelector(`.${name}`);
-  const row = { element, button: cell('play').firstChild, name: cell('name'), picture: cell('picture'), pitch: cell('pitch'), peak: cell('peak'), loudness: cell('loudness'), words: cell('words') };
+  const row = { element, button: cell('play').firstElementChild };
+  for (const name of ['name', 'picture', 'pitch', 'peak', 'loudness', 'words']) row[name] = cell(name);
   row.button.addEventListener('click', (event) => { event.stopPropagation(); press(row.index); });
   element.addEventListener('click', () => select(row.index, false));
   byId('rows').append(element);
@@ -27,7 +28,8 @@ function words(note) {
   return `Line ${note.line} ${STATES[note.state]}${number}${note.words && `: ${note.words}`}`;
 }
 
-const played = (note) => `${note.kind}, ${note.note}, ${note.seconds === 'ring' ? 'rings' : `${note.seconds} s`}, ${note.play}`;
+const lasting = (note) => (Number.isNaN(Number(note.seconds)) ? note.seconds : `${note.seconds} s`);
+const played = (note) => `${note.kind}, ${note.note}, ${lasting(note)}, ${note.play}`;
 
 function fill(row, index) {
   const note = catalogue.shown[index];
@@ -46,6 +48,7 @@ function fill(row, index) {
   row.loudness.textContent = withUnit(note.loudness, 'LUFS');
   row.words.textContent = words(note);
   row.button.hidden = !hasSound(note);
+  draw(row.picture, note, false);
   mark(row);
 }
 
@@ -74,22 +77,39 @@ function drawRows(isAnew) {
     else if (isAnew || row.index !== index || !row.note) fill(row, index);
   });
   clearTimeout(table.timer);
-  table.timer = setTimeout(drawPictures, isAnew ? 0 : 60);
+  table.timer = setTimeout(settle, isAnew ? 0 : 60);
 }
 
-// Shows the notes that are asked for, from the first.
+// Once the rows stand still: their pictures, and their order for those who go from one to the next without seeing them.
+function settle() {
+  drawPictures();
+  const rows = table.rows.filter((row) => row.note).sort((a, b) => a.index - b.index);
+  const focused = rows.findIndex((row) => row.element.contains(document.activeElement));
+  rows.forEach(({ element }, k) => {
+    if (k < focused) rows[focused].element.before(element);
+    else if (k > focused) byId('rows').append(element);
+  });
+}
+
+// Shows the notes that are asked for.
 function showChosen() {
   const by = byId('sort').value;
   const isDown = byId('down').getAttribute('aria-pressed') === 'true';
   choose({ search: byId('search').value, kind: byId('kind').value, by, isDown, isFirst: byId('first').checked });
   const [shown, all] = [catalogue.shown.length, catalogue.notes.length];
   byId('shown').textContent = shown > MOST_ROWS ? `${shown} of ${all} found, the first ${MOST_ROWS} shown.` : `${shown} of ${all} shown.`;
-  byId('rows').style.height = `${Math.min(shown, MOST_ROWS) * rowHeight()}px`;
   byId('table').setAttribute('aria-rowcount', shown + 1);
   for (const button of document.querySelectorAll('#head button')) {
     const header = button.parentElement;
-    if (button.dataset.sort === by) header.setAttribute('aria-sort', isDown ? 'descending' : 'ascending'); else header.removeAttribute('aria-sort');
+    header.removeAttribute('aria-sort');
+    if (button.dataset.sort === by) header.setAttribute('aria-sort', isDown ? 'descending' : 'ascending');
   }
+  layOut();
+}
+
+// Gives the rows their places, which are others on a narrow screen.
+function layOut() {
+  byId('rows').style.height = `${Math.min(catalogue.shown.length, MOST_ROWS) * rowHeight()}px`;
   drawRows(true);
 }
 
