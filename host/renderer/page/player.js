@@ -34,7 +34,7 @@ function detail(note) {
   const said = [isWarned(note) ? words(note) : '', played(note), levels, knobs(note)];
   if (isSpectral) {
     const top = catalogue.head.rate / 2;
-    said.unshift(`Spectrogram from ${Math.round(top / 512)} Hz to ${+(top / 1000).toFixed(1)} kHz in octaves, down to 88 dB below its loudest`);
+    said.unshift(`Spectrogram from ${Math.round(top / 512)} Hz to ${+(top / 1000).toFixed(1)} kHz in octaves, down to 83 dB below its loudest`);
   }
   return said.filter(Boolean).join('; ');
 }
@@ -82,7 +82,7 @@ function showTime() {
   const [audio, { note }] = [byId('audio'), player];
   const length = audio.duration || Number(note.seconds);
   const part = audio.duration ? audio.currentTime / audio.duration : 0;
-  const times = [audio.currentTime, length].filter(Number.isFinite).map((time) => time.toFixed(1));
+  const times = [audio.currentTime, length].filter(Number.isFinite).map((time) => time.toFixed(2));
   byId('time').textContent = hasSound(note) ? `${times.join(' of ')} s` : '';
   byId('seek').value = Math.round(part * 1000);
   byId('seek').setAttribute('aria-valuetext', byId('time').textContent);

@@ -7,6 +7,8 @@ use std::sync::LazyLock;
 pub const COLUMNS: usize = 15 * SIDES;
 pub const ROWS: usize = 60;
 
+const HALF: u64 = STRETCH as u64 / 2;
+
 /// The octaves below half the sample rate.
 const OCTAVES: f32 = 9.0;
 
@@ -56,18 +58,25 @@ impl Spectrum {
         }
     }
 
-    /// The frame behind the stretch of the next column.
-    fn end(&self) -> u64 {
-        let middle = (2 * self.heard as u64 + 1) * self.frames / (2 * COLUMNS as u64);
-        (middle + STRETCH as u64 / 2).min(self.frames)
+    /// The middle of the next column.
+    fn middle(&self) -> u64 {
+        (2 * self.heard as u64 + 1) * self.frames / (2 * COLUMNS as u64)
     }
 
-    /// Takes the stretch of the next column, with silence where the note has not begun.
+    /// The frame behind what is heard of the next column's stretch.
+    fn end(&self) -> u64 {
+        (self.middle() + HALF).min(self.frames)
+    }
+
+    /// Takes the stretch of the next column, with silence before the note and behind it.
     fn hear(&mut self) {
-        let end = self.recent.len() - (self.done - self.end()) as usize;
-        let begin = end.saturating_sub(STRETCH);
-        self.stretches.resize(self.stretches.len() + STRETCH - (end - begin), 0.0);
-        self.stretches.extend(&self.recent[begin..end]);
+        let middle = self.middle();
+        let place = |frame: u64| self.recent.len() - (self.done - frame) as usize;
+        let heard = place(middle.saturating_sub(HALF))..place(self.end());
+        let begun = self.stretches.len();
+        self.stretches.resize(begun + HALF.saturating_sub(middle) as usize, 0.0);
+        self.stretches.extend(&self.recent[heard]);
+        self.stretches.resize(begun + STRETCH, 0.0);
         self.heard += 1;
         if self.stretches.len() == SIDES * STRETCH {
             self.levels.extend(columns(&self.stretches));

@@ -84,6 +84,11 @@ fn full(folder: &Folder, kilobytes: usize, jobs: usize, format: &str) -> Option<
         assert_eq!(lines(&out).len(), 31);
         let page = fs::read_to_string(out.join("index.html")).expect("the page is read");
         assert!(page.ends_with("</table>\n</main>\n") && page.matches("<tr").count() == 31);
+        for piece in ["list", "waves-1", "spectra-1"] {
+            let file = out.join(format!("index-{piece}.js"));
+            let text = fs::read_to_string(file).expect("it is read");
+            assert!(text.ends_with(",\n]);\n") && text.lines().count() == 33, "{piece}");
+        }
         is_clean(&out);
     }
     assert!(small.mount("remount,size=20000k", "tmpfs"));
