@@ -12,13 +12,14 @@ from browser import Browser  # noqa: E402
 from sheet import sheet  # noqa: E402
 
 NOTES = 700
-SPACE, ENTER, ESCAPE, UP, DOWN = " ", "\ue007", "\ue00c", "\ue013", "\ue015"
+SPACE, BACKSPACE, ENTER, ESCAPE, END, UP, DOWN = " ", "\ue003", "\ue007", "\ue00c", "\ue010", "\ue013", "\ue015"
 ROW = "#rows .row:not([hidden])"
 ROWS = f"[...document.querySelectorAll('{ROW}')]"
 NAMES = f"return {ROWS}.sort((a, b) => a.ariaRowIndex - b.ariaRowIndex).map(row => row.querySelector('.name b').textContent)"
 CURRENT = "return document.querySelector('#rows [aria-current] .name b')?.textContent"
 TIME = "document.getElementById('audio').currentTime"
 NARROW = "document.documentElement.scrollWidth <= innerWidth"
+WIDE = "[...document.querySelectorAll('#live *')].filter(each => each.getBoundingClientRect().right > innerWidth).map(each => each.outerHTML.slice(0, 80))"
 PAUSED = "document.getElementById('audio').paused"
 
 
@@ -65,7 +66,7 @@ def searches(browser):
     choose(browser, "#kind", "string")
     same(browser.run(NAMES)[:4], ["pluck 6", "pluck 36", "pluck 60", "pluck 66"], "a search among strings")
     browser.type("#search", "x")
-    browser.press("\ue003")
+    browser.press(BACKSPACE)
     choose(browser, "#kind", "")
     same(shown(browser), f"{NOTES} of {NOTES} shown.", "all notes are shown again")
 
@@ -127,6 +128,18 @@ def keys(browser):
     same(browser.run("return document.getElementById('spectra').ariaPressed"), "true", "s shows spectrograms")
 
 
+def follows(browser):
+    """The player goes on with the row that the arrows come to."""
+    choose(browser, "#search", "")
+    browser.run("document.activeElement.blur()")
+    browser.press(END, SPACE)
+    browser.wait(f"!{PAUSED} && {TIME} > 0.05", "the last row plays")
+    browser.press(UP)
+    same(browser.run(CURRENT), "Änd #1", "the row before")
+    browser.wait(f"!{PAUSED} && {TIME} > 0.05 && document.getElementById('audio').duration === 2", "the row before plays")
+    browser.press(SPACE)
+
+
 def pictures(browser):
     """Spectrograms are there now, and were not loaded before; a hot note looks hot."""
     picture = f"document.querySelector('{ROW} .picture img')"
@@ -134,6 +147,12 @@ def pictures(browser):
     browser.press("s")
     choose(browser, "#search", "too hot")
     browser.wait(f"document.querySelector('{ROW} .hot')?.getAttribute('d').length > 100", "a hot waveform")
+    off = browser.run("""
+        return catalogue.notes.filter(note => note.peak !== null && note.place < 250).map(note => {
+            const highest = Math.max(...columns(chunks.waves.get(1)[note.place]).flat().map(Math.abs)) / FULL;
+            return Math.abs(highest - 10 ** (note.peak / 20));
+        });""")
+    expect(len(off) == 248 and max(off) < 0.003, "waveforms are as high as their peaks on the scale of full scale")
     choose(browser, "#search", "bell 67")
     browser.wait(f"document.querySelector('{ROW} svg path:nth-child(2)')?.getAttribute('d').length > 1000", "a waveform")
     choose(browser, "#search", "")
@@ -145,6 +164,7 @@ def fits(browser):
         browser.size(width, 844)
         browser.run("scrollTo(0, 20000)")
         same(browser.run(f"scrollTo(90, scrollY); return [scrollX, {NARROW}]"), [0, True], f"{width} pixels do not scroll sideways")
+        same(browser.run(f"return {WIDE}"), [], f"what is wider than {width} pixels")
         top, bottom, left, right, wide, high = edges(browser, "document.getElementById('play')")
         expect(left >= 0 and right <= wide and bottom <= high and bottom - top >= 44, f"the player's button is whole at {width} pixels")
 
@@ -175,10 +195,10 @@ def run(tool, folder):
         browser.open(address)
         browser.wait(f"{ROWS}.length > 0", "the rows")
         loaded = browser.run("return chunks.spectra.size")
-        for part in [searches, sorts, plays, keys, pictures, fits]:
+        for part in [searches, sorts, plays, keys, pictures, follows, fits]:
             part(browser)
         same(loaded, 0, "spectrograms that nobody asked for")
-        same(browser.faults(), [], "errors in the console")
+        same(browser.faults()[:3], [], "errors in the console")
         browser.size(390, 844)
         without_script(browser, address)
         without_list(browser, folder)

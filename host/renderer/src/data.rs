@@ -50,14 +50,10 @@ pub fn begin(name: &str, number: usize) -> String {
 
 pub const END: &str = "]);\n";
 
-/// What the page knows of all notes, as the call that begins the list.
-pub fn begin_list(rows: usize, ordered: usize, settings: &Settings) -> String {
-    let Settings { rate, format, .. } = settings;
-    let ending = format.ending();
-    let columns = COLUMNS;
-    format!(
-        "{MARK}catalogue.list({{rows: {rows}, ordered: {ordered}, rate: {rate}, ending: \"{ending}\", columns: {columns}}}, [\n"
-    )
+/// The call that begins the list, with what the page knows of all notes.
+pub fn begin_list(rows: usize, settings: &Settings) -> String {
+    let (rate, ending) = (settings.rate, settings.format.ending());
+    format!("{MARK}catalogue.list({{rows: {rows}, rate: {rate}, ending: \"{ending}\"}}, [\n")
 }
 
 /// A note's row in the list: name, state, line, kind, note, seconds, play, the four other knobs, pitch in hundredths, peak, loudness,
@@ -95,7 +91,8 @@ pub fn row(order: &Order, outcome: &Outcome) -> String {
     row + &format!(",{pitch},{peak},{loudness},{},{number}],\n", quoted(words))
 }
 
-/// A note's waveform on the scale of full scale, which is 384 steps: three letters a column, the digits of a number that has both its ends.
+/// A note's waveform on the scale of full scale, which is 384 steps: three letters a column, the digits of a number that has both
+/// its ends.
 pub fn wave(outcome: &Outcome) -> String {
     let step =
         |sample: &f32| (433.0 + sample.clamp(-2.0, 2.0) * 384.0).round().clamp(0.0, 867.0) as u32;

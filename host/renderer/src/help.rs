@@ -16,8 +16,8 @@ SHEET is a CSV file with a header ('-' reads it from standard input), one note a
               the knobs, each from 0 to 1
 
 DIR gets one sound file a note; catalogue.csv with a line for every note, what became of it, its
-levels, what made it and the SHA-256 of its file; index.html, the catalogue as a page, and index-2.html
-and so on for the notes behind the first 250; and notes.sfz, the notes as an instrument for samplers.
+levels, what made it and the SHA-256 of its file; index.html, the catalogue as a page to search and play,
+with files beside it whose names begin with index-; and notes.sfz, an instrument for samplers.
 
 Options of render:
   -o, --output DIR

@@ -176,9 +176,14 @@ fn waveform(rendered: &Rendered, name: &str) -> String {
         last = low + 1;
     }
     let path = path.replace(" -", "-");
-    let hot = if rendered.peak > 1.0 { " class=\"hot\"" } else { "" };
+    let hot = if rendered.told.peak.parse().is_ok_and(|peak: f64| peak > 0.0) {
+        " class=\"hot\""
+    } else {
+        ""
+    };
     format!(
-        "<svg{hot} viewBox=\"0 0 {DRAWN} {HEIGHT}\" preserveAspectRatio=\"none\" role=\"img\" aria-label=\"Waveform of {name}\"><path d=\"{path}\"/></svg>"
+        "<svg{hot} viewBox=\"0 0 {DRAWN} {HEIGHT}\" preserveAspectRatio=\"none\" role=\"img\" \
+         aria-label=\"Waveform of {name}\"><path d=\"{path}\"/></svg>"
     )
 }
 

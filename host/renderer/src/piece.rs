@@ -64,7 +64,7 @@ impl Piece {
         let Notes { ordered, settings } = notes;
         match self {
             Piece::Page => page::begin(number, ordered.div_ceil(page::ROWS), *ordered),
-            Piece::List => data::begin_list(page::ROWS, *ordered, settings),
+            Piece::List => data::begin_list(page::ROWS, settings),
             Piece::Waves => data::begin("waves", number),
             Piece::Spectra => data::begin("spectra", number),
         }
