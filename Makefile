@@ -39,7 +39,7 @@ install: ready $(libraries)/libbank_abi.a
 	@install -D -m 644 $(share)/_bleidhvan "$(root)/share/zsh/site-functions/_bleidhvan"
 	@install -D -m 644 $(share)/bleidhvan.fish "$(root)/share/fish/vendor_completions.d/bleidhvan.fish"
 	@install -D -m 644 crates/bank_abi/include/bleidhvan.h "$(root)/include/bleidhvan.h"
-	@install -D -m 644 $< "$(root)/lib/libbank_abi.a"
+	@install -D -m 644 $(libraries)/libbank_abi.a "$(root)/lib/libbank_abi.a"
 	@mkdir -p "$(root)/lib/pkgconfig"
 	@sed 's|@PREFIX@|$(PREFIX)|' $(share)/bleidhvan.pc.in >"$(root)/lib/pkgconfig/bleidhvan.pc"
 	@echo "installed to $(root)"
