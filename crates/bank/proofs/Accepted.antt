@@ -130,6 +130,22 @@ pub record Spared (kind : ℕ) (k : Knobs) (u : Bufs) : Type 0 where
   pub brightness : not (in_range c0 c1 k.brightness) ≡ false
   pub damping : not (in_range c0 c1 k.damping) ≡ false
 
+-- buffers that the table does not tell apart have one length
+pub one_length : (u : Bufs) → alike u ≡ true → Alike u.temp u.temp2 u.out u.aux
+unfolding alike
+one_length u e =
+    let n = length u.temp in
+    let t2 = eqb (length u.temp2) n in
+    let o = eqb (length u.out) n in
+    let a = eqb (length u.aux) n in
+    let l = and_true (t2 && o) a e in
+    let m = and_true t2 o l.0 in
+    record {
+      temp2_is = eqb-true (length u.temp2) n m.0;
+      out_is = eqb-true (length u.out) n m.1;
+      aux_is = eqb-true (length u.aux) n l.1;
+    }
+
 -- what they leave: its slot is not empty, and its buffers have one length, of at most 4,096
 module _ (kind : ℕ) (k : Knobs) (u : Bufs) (e : first (checks kind (render k u)) ≡ Ok tt) where
   pub render_spared : Spared kind k u
@@ -149,19 +165,7 @@ module _ (kind : ℕ) (k : Knobs) (u : Bufs) (e : first (checks kind (render k u
       }
 
   pub alike_lent : Alike u.temp u.temp2 u.out u.aux
-  unfolding alike
-  alike_lent =
-      let n = length u.temp in
-      let t2 = eqb (length u.temp2) n in
-      let o = eqb (length u.out) n in
-      let a = eqb (length u.aux) n in
-      let l = and_true (t2 && o) a (not-false (alike u) render_spared.lengths) in
-      let m = and_true t2 o l.0 in
-      record {
-        temp2_is = eqb-true (length u.temp2) n m.0;
-        out_is = eqb-true (length u.out) n m.1;
-        aux_is = eqb-true (length u.aux) n l.1;
-      }
+  alike_lent = one_length u (not-false (alike u) render_spared.lengths)
 
   short : length u.out ≤ 4096
   short =

@@ -23,6 +23,9 @@ reason_number R.NoReset = 6
 reason_number R.Lengths = 7
 reason_number R.TooLong = 8
 reason_number (R.OutOfRange k) = knob_number k
+reason_number R.TooMany = 14
+reason_number R.OutOfOrder = 15
+reason_number R.PastEnd = 16
 
 abbrev pub no_counts : Counts
 no_counts = record { burst = 0; dust = 0; dispersion = 0 }

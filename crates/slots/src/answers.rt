@@ -25,6 +25,9 @@ pub enum Reason {
     Lengths,
     TooLong,
     OutOfRange(Knob),
+    TooMany,
+    OutOfOrder,
+    PastEnd,
 }
 
 // What the table says of a call.
@@ -61,6 +64,9 @@ impl From<Reason> for u32 {
             Reason::Lengths => 7,
             Reason::TooLong => 8,
             Reason::OutOfRange(knob) => u32::from(knob),
+            Reason::TooMany => 14,
+            Reason::OutOfOrder => 15,
+            Reason::PastEnd => 16,
         }
     }
 }

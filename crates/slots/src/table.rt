@@ -45,7 +45,7 @@ fn within(lo: f32, hi: f32, x: f32) -> bool
 
 // Whether four buffers do not differ in length; `==` of slices would compare what stands in them.
 #[tactic(auto, unfolding(crate::specs::Table::alike))]
-fn alike(temp: &[f32], temp_2: &[f32], out: &[f32], aux: &[f32]) -> bool
+pub fn alike(temp: &[f32], temp_2: &[f32], out: &[f32], aux: &[f32]) -> bool
     ensures { result ≡ alike (record { temp = temp.now; temp2 = temp_2.now; out = out.now; aux = aux.now }) }
 {
     let n = temp.len();
@@ -54,7 +54,7 @@ fn alike(temp: &[f32], temp_2: &[f32], out: &[f32], aux: &[f32]) -> bool
 
 // A row of the table: the flag is what the row tests, and `?` leaves at the first that applies.
 #[tactic(auto, unfolding(crate::specs::Table::first))]
-fn refuse_if(applies: bool, reason: Reason) -> Verdict
+pub fn refuse_if(applies: bool, reason: Reason) -> Verdict
     ensures { result ≡ first (reason ⇐ applies ∷ []) }
 {
     if applies { Err(reason) } else { Ok(()) }

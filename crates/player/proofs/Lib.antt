@@ -1,0 +1,5 @@
+-- Laws of the player.
+pub mod Accepted
+pub mod Following
+pub mod Owners
+pub mod Turns

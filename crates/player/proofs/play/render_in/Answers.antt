@@ -1,0 +1,13 @@
+-- `play::render_in` meets its contract: the parts go back where they were cut.
+use Rattle.slots.specs.Calls.{Bufs}
+use Rattle.ground.specs.Part.{part, put}
+use Rattle.player.specs.Sheet.{cue_of}
+use Rattle.player.proofs.Turns.{turned}
+use Rattle.player.proofs.play.render_in.Goals as goal
+
+pub returns : goal.returns
+unfolding part put
+returns c place ts =
+    let a = c.args in
+    let b : Bufs = record { temp = a.temp.now; temp2 = a.temp_2.now; out = a.out.now; aux = a.aux.now } in
+    turned (record { bank = a.bank; word = a.word; mem = a.lines.now }) (cue_of place a.e a.to) b ts c.knobs_of.result _ c.knobs_of.ensures c.render_into.ensures
