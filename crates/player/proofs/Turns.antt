@@ -8,6 +8,9 @@ use native.Mathlib.Omega.{arith}
 use lib.ListN.{length, take, drop, set, replicate, length-drop}
 use lib.Seq.{take_all}
 use Rattle.std.specs.Prelude.{Result, Ok, Err}
+use Rattle.std.proofs.lemmas.List.{take_more}
+use Rattle.ground.specs.Each.{Each}
+use Rattle.ground.proofs.Each.{each_push}
 use Rattle.ground.specs.Frames.{over}
 use Rattle.ground.proofs.Frames.{Over, frames_begin, over_turn, over_end}
 use Rattle.noise.specs.Excitation.{Alike}
@@ -19,8 +22,8 @@ use Rattle.slots.specs.Table.{Call}
 use Rattle.bank.specs.World.{World, Left, left_of, call_def}
 use Rattle.player.specs.declared.sheet.Event.{Event}
 use Rattle.player.specs.declared.play.Told.{Told}
-use Rattle.player.specs.Sheet.{sheet_verdict, until, Cue, cue_of, cues}
-use Rattle.player.specs.Owners.{no_cue, event_at, cue_at}
+use Rattle.player.specs.Sheet.{AreF32, sheet_verdict, until, Cue, cue_of, cues}
+use Rattle.player.specs.Owners.{no_event, no_cue, event_at, cue_at}
 use Rattle.player.proofs.Accepted.{Whole, taken}
 use Rattle.player.proofs.Owners.{one_each, cue_is, lies}
 use Rattle.player.specs.Play.{told, told_of, parts, put_parts, Move, Playing, refused_answers, turn, turns, play_by, play_def, bank_move}
@@ -38,12 +41,13 @@ turned w q b ts k l ek e =
 
 -- ---- the loop over a sheet's events
 
--- i turns are done, on buffers of n frames and 64 answers
+-- i turns are done, on buffers of n frames and 64 answers, and their events were asked as f32s
 pub record Sofar (es : List Event) (n : ℕ) (s₀ : Playing World) (i : ℕ) (s : Playing World) : Type 0 where
   pub done : Over (turn bank_move) s₀ (cues n es) i s
   pub frames : length s.bufs.temp ≡ n
   pub alike : Alike s.bufs.temp s.bufs.temp2 s.bufs.out s.bufs.aux
   pub room : length s.answers ≡ 64
+  pub given : Each AreF32 (take i es)
 
 -- the events that follow, as the code lends them
 pub following : (es : List Event) (n s k : ℕ) {to : ℕ} → to ≡ until n s (take (length es - k) (drop k es)) → to ≡ until n s (drop k es)
@@ -61,8 +65,9 @@ lies_now {es} {n} {i} f w h e =
 pub again : {es : List Event} {n i : ℕ} {s₀ s s' : Playing World} {to : ℕ} → Sofar es n s₀ i s → i < length es
     → to ≡ until n (event_at es i).slot (drop (i + 1) es) → turn bank_move s (cue_of i (event_at es i) to) ≡ s'
     → length s'.bufs.temp ≡ length s.bufs.temp → length s'.bufs.temp2 ≡ length s.bufs.temp2 → length s'.bufs.out ≡ length s.bufs.out
-    → length s'.bufs.aux ≡ length s.bufs.aux → length s'.answers ≡ length s.answers → Sofar es n s₀ (i + 1) s'
-again {es} {n} {i} {s₀} {s} {s'} {to} f h e t lt lt2 lo la lr =
+    → length s'.bufs.aux ≡ length s.bufs.aux → length s'.answers ≡ length s.answers → AreF32 (event_at es i)
+    → Sofar es n s₀ (i + 1) s'
+again {es} {n} {i} {s₀} {s} {s'} {to} f h e t lt lt2 lo la lr g =
     let d : drop (i + 1) es ≡ drop (suc i) es = ap (λ (k : ℕ). drop k es) (add-one i) in
     let u : to ≡ until n (event_at es i).slot (drop (suc i) es) = e ∙ ap (until n (event_at es i).slot) d in
     let q : cue_at n es i ≡ cue_of i (event_at es i) to = cue_is es n i h ∙ ap (cue_of i (event_at es i)) (sym u) in
@@ -75,14 +80,18 @@ again {es} {n} {i} {s₀} {s} {s'} {to} f h e t lt lt2 lo la lr =
         aux_is = la ∙ f.alike.aux_is ∙ sym lt;
       };
       room = lr ∙ f.room;
+      given = subst (λ (xs : List Event). Each AreF32 xs) (sym (take_more es i no_event h)) (each_push AreF32 (take i es) (event_at es i) f.given g);
     }
 
 pub all_done : {es : List Event} {n i : ℕ} {s₀ s : Playing World} → Sofar es n s₀ i s → length es ≤ i → over (turn bank_move) s₀ (cues n es) ≡ s
 all_done {es} {n} f h = sym (over_end f.done (omega (arith, one_each es n 0)))
 
+pub all_given : {es : List Event} {n i : ℕ} {s₀ s : Playing World} → Sofar es n s₀ i s → length es ≤ i → Each AreF32 es
+all_given {es} {n} {i} f h = subst (λ (xs : List Event). Each AreF32 xs) (take_all i es h) f.given
+
 pub begun : (es : List Event) (s₀ : Playing World) → Alike s₀.bufs.temp s₀.bufs.temp2 s₀.bufs.out s₀.bufs.aux → length s₀.answers ≡ 64
     → Sofar es (length s₀.bufs.temp) s₀ 0 s₀
-begun es s₀ a r = record { done = frames_begin; frames = refl; alike = a; room = r }
+begun es s₀ a r = record { done = frames_begin; frames = refl; alike = a; room = r; given = tt }
 
 -- ---- a sheet by the table's word
 

@@ -1,5 +1,7 @@
 -- A sheet: the events of one block, what the table says of it, and the renders that the player makes of it. Assumes nothing.
-use Rattle.std.specs.Prelude.{Bool, true, not, ◌&&◌, ◌||◌, cond, List, [], ◌∷◌, ℕ, suc, eqb, leb, ltb, length, Result}
+use Rattle.std.specs.Prelude.{Bool, true, not, ◌&&◌, ◌||◌, cond, List, [], ◌∷◌, ℕ, suc, eqb, leb, ltb, length, T, Result}
+use Rattle.std.specs.Float.{binary32}
+use Rattle.std.specs.Float.Ieee.{fits}
 use Rattle.std.specs.List.{list_any, list_all}
 use Rattle.noise.specs.declared.excitation.Knobs.{Knobs}
 use Rattle.slots.specs.declared.answers.Reason.{Reason}
@@ -20,6 +22,10 @@ knobs_of e =
       brightness = e.brightness;
       damping = e.damping;
     }
+
+-- a structure is an f32, as every knob is
+abbrev pub AreF32 : Event → Type 0
+AreF32 e = T (fits binary32 e.structure)
 
 -- ---- the table
 

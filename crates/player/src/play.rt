@@ -1,12 +1,15 @@
 // A sheet played on a bank.
-ghost use Rattle.std.specs.Prelude.{◌≡◌, ℕ, ◌≤◌, List, length, Ok, set, replicate, false};
+ghost use Rattle.std.specs.Float.{binary32};
+ghost use Rattle.std.specs.Float.Ieee.{fits};
+ghost use Rattle.std.specs.Prelude.{T, ◌≡◌, ℕ, ◌≤◌, List, length, Ok, set, replicate, false};
+ghost use Rattle.ground.specs.Each.{Each};
 ghost use Rattle.ground.specs.Frames.{over};
 ghost use Rattle.noise.specs.Excitation.{Alike};
 ghost use Rattle.noise.specs.Buffers.{held, IsSame};
 ghost use Rattle.slots.specs.Calls.{render};
 ghost use Rattle.slots.specs.Table.{bad};
 ghost use Rattle.bank.specs.World.{left_of, call_def};
-ghost use Rattle.player.specs.Sheet.{cue_of, cues, sheet_verdict};
+ghost use Rattle.player.specs.Sheet.{AreF32, cue_of, cues, sheet_verdict};
 ghost use Rattle.player.specs.Play.{told_of, refused_answers, turn, play_def, bank_move};
 
 use crate::sheet::{Event, check_sheet, knobs_of, until};
@@ -74,7 +77,7 @@ fn render_into(
     out: &mut [f32],
     aux: &mut [f32],
 ) -> Rendered
-    ensures { left_of (call_def (record { bank = bank; word = word; mem = lines.old }) (record {
+    ensures left { left_of (call_def (record { bank = bank; word = word; mem = lines.old }) (record {
       slot = slot;
       act = render k (record { temp = temp.old; temp2 = temp_2.old; out = out.old; aux = aux.old });
     })) ≡ record {
@@ -82,6 +85,7 @@ fn render_into(
       after = record { bank = result.bank; word = result.word; mem = lines.new };
       bufs = record { temp = temp.new; temp2 = temp_2.new; out = out.new; aux = aux.new };
     } }
+    ensures given { T (fits binary32 k.structure) }
 {
     let mut b = Buffers {
         temp,
@@ -105,7 +109,7 @@ fn render_in(
     aux: &mut [f32],
 ) -> Rendered
     requires { (e.frame ≤ to) × (to ≤ length temp.old) × Alike temp.old temp_2.old out.old aux.old }
-    ensures { (place : ℕ) (ts : List Told) → turn bank_move (record {
+    ensures turned { (place : ℕ) (ts : List Told) → turn bank_move (record {
       world = record { bank = bank; word = word; mem = lines.old };
       bufs = record { temp = temp.old; temp2 = temp_2.old; out = out.old; aux = aux.old };
       answers = ts;
@@ -114,6 +118,7 @@ fn render_in(
       bufs = record { temp = temp.new; temp2 = temp_2.new; out = out.new; aux = aux.new };
       answers = set ts place (told_of result.answer);
     } }
+    ensures given { AreF32 e }
 {
     let from = e.frame as usize;
     render_into(
@@ -149,6 +154,7 @@ fn play_all(
       answers = answers.new;
     } }
     ensures number { result.number ≡ 0 }
+    ensures given { Each AreF32 sheet.now }
     ensures same { IsSame b.new b.old }
 {
     let n = b.temp.len();
@@ -187,6 +193,7 @@ pub fn play(
       bufs = held b.new;
       answers = answers.new;
     }) }
+    ensures given { result.number ≡ 0 → Each AreF32 sheet.now }
     ensures same { IsSame b.new b.old }
 {
     let bad = slots::table::bad(bank, lines);

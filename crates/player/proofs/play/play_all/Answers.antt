@@ -5,7 +5,7 @@ use Rattle.player.specs.declared.play.Told.{Told}
 use Rattle.player.specs.Play.{Playing}
 use Rattle.bank.specs.World.{World}
 use Rattle.player.proofs.Accepted.{taken}
-use Rattle.player.proofs.Turns.{begun, following, lies_now, again, all_done}
+use Rattle.player.proofs.Turns.{begun, following, lies_now, again, all_done, all_given}
 use Rattle.player.proofs.play.play_all.Goals as goal
 
 pub loop-i-init : goal.loop-i-init
@@ -36,8 +36,11 @@ loop-i-preserved c =
       bufs = record { temp = r.new.temp; temp2 = r.new.temp_2; out = r.new.out; aux = r.new.aux };
       answers = set l.answers l.i x;
     } in
-    (again l.invariant.0 (search rules) (following c.args.sheet.now (length c.args.b.now.temp.now) _ (l.i + 1) c.until-to.ensures) (r.ensures l.i l.answers ∙ ap told (sym c.told_of.ensures)) (search rules) (search rules)
-    (search rules) (search rules) (search rules), search rules)
+    (again l.invariant.0 (search rules) (following c.args.sheet.now (length c.args.b.now.temp.now) _ (l.i + 1) c.until-to.ensures) (r.ensures.turned l.i l.answers ∙ ap told (sym c.told_of.ensures)) (search rules) (search rules)
+    (search rules) (search rules) (search rules) r.ensures.given, search rules)
 
 pub returns-clause-turned : goal.returns-clause-turned
 returns-clause-turned c = all_done c.loop-i.invariant.0 (search rules)
+
+pub returns-clause-given : goal.returns-clause-given
+returns-clause-given c = all_given c.loop-i.invariant.0 (search rules)

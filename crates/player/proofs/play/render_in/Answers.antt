@@ -5,9 +5,9 @@ use Rattle.player.specs.Sheet.{cue_of}
 use Rattle.player.proofs.Turns.{turned}
 use Rattle.player.proofs.play.render_in.Goals as goal
 
-pub returns : goal.returns
+pub returns-clause-turned : goal.returns-clause-turned
 unfolding part put
-returns c place ts =
+returns-clause-turned c place ts =
     let a = c.args in
     let b : Bufs = record { temp = a.temp.now; temp2 = a.temp_2.now; out = a.out.now; aux = a.aux.now } in
-    turned (record { bank = a.bank; word = a.word; mem = a.lines.now }) (cue_of place a.e a.to) b ts c.knobs_of.result _ c.knobs_of.ensures c.render_into.ensures
+    turned (record { bank = a.bank; word = a.word; mem = a.lines.now }) (cue_of place a.e a.to) b ts c.knobs_of.result _ c.knobs_of.ensures c.render_into.ensures.left
