@@ -5,4 +5,5 @@ pub mod Again
 pub mod Stays
 pub mod Crosses
 pub mod Zeros
+pub mod Plays
 pub mod Chain

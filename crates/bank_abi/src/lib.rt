@@ -8,12 +8,13 @@ ghost use Rattle.slots.specs.Calls.{opening, reset, render, lent};
 ghost use Rattle.slot_bytes.specs.Layout.{encode_bank};
 ghost use Rattle.bank_abi.specs.Crossing.{fresh_def, Gives};
 
+pub mod player;
 pub mod table;
 pub mod voices;
 
 use noise::buffers::Buffers;
 use noise::excitation::Knobs;
-use slots::answers::Reason;
+use slots::answers::{Reason, counts_of, number_of};
 
 // The length of a bank in bytes.
 #[tactic(auto, using(crate::proofs::Zeros::fresh_zeros))]
@@ -125,9 +126,6 @@ pub extern "C" fn bleidhvan_render(
       bufs = record { temp = temp.new; temp2 = temp_2.new; out = out.new; aux = aux.new };
     }) }
 {
-    *burst = 0;
-    *dust = 0;
-    *dispersion = 0;
     let k = Knobs {
         sustain,
         trigger,
@@ -144,25 +142,20 @@ pub extern "C" fn bleidhvan_render(
         aux,
     };
     let bad = crate::table::bad(bytes, lines);
-    let kind = crate::table::kind_at(bytes, slot);
-    match slots::table::check_lent(bad, slot, kind, k, &b) {
-        Err(reason) => u32::from(reason),
-        Ok(()) => {
-            let r = crate::voices::render(
-                slow_subnormals,
-                kind,
-                bytes,
-                lines,
-                *word,
-                slot,
-                k,
-                &mut b,
-            );
-            *word = r.word;
-            *burst = r.counts.burst;
-            *dust = r.counts.dust;
-            *dispersion = r.counts.dispersion;
-            0
-        }
-    }
+    let r = crate::voices::answered(
+        slow_subnormals,
+        bad,
+        bytes,
+        lines,
+        *word,
+        slot,
+        k,
+        &mut b,
+    );
+    let counts = counts_of(r.answer);
+    *word = r.word;
+    *burst = counts.burst;
+    *dust = counts.dust;
+    *dispersion = counts.dispersion;
+    number_of(r.answer)
 }

@@ -1,14 +1,16 @@
 // A render that the table accepts, on the bytes of its slot.
 ghost use Rattle.std.specs.Prelude.{◌≡◌, ◌<◌, length, Float, List};
 ghost use Rattle.noise.specs.Buffers.{held, IsAlike, IsSame};
+ghost use Rattle.slots.specs.Answers.{number_of, counts_of};
 ghost use Rattle.slots.specs.Slots.{slot_at};
 ghost use Rattle.slots.specs.Calls.{render};
 ghost use Rattle.bank.specs.World.{Ready};
 ghost use Rattle.slot_bytes.specs.Layout.{decode_bank};
-ghost use Rattle.bank_abi.specs.Crossing.{Wrote};
+ghost use Rattle.bank_abi.specs.Crossing.{bad_bytes, Wrote, Gives};
 
 use noise::buffers::Buffers;
 use noise::excitation::{Knobs, Rendered};
+use slots::answers::Answer;
 use slots::slots::Kind;
 
 // What a render gives beside the voice, which stands in the bytes.
@@ -102,4 +104,50 @@ pub fn render(
         return render_string(bytes, lines, word, slot, k, b);
     }
     render_modal(around, bytes, word, slot, k, b)
+}
+
+// A render's answer, and the generator's word behind it.
+#[derive(Clone, Copy)]
+pub struct Reply {
+    pub word: u32,
+    pub answer: Answer,
+}
+
+// A render, by the table's word; `bad` says whether number 1 applies.
+pub fn answered(
+    around: bool,
+    bad: bool,
+    bytes: &mut [u8],
+    lines: &mut [f32],
+    word: u32,
+    slot: usize,
+    k: Knobs,
+    b: &mut Buffers,
+) -> Reply
+    requires { bad ≡ bad_bytes bytes.old lines.old }
+    ensures gives { Gives (record { bytes = bytes.old; word = word; mem = lines.old }) (record {
+      slot = slot;
+      act = render k (held b.old);
+    }) (record {
+      number = number_of result.answer;
+      counts = counts_of result.answer;
+      after = record { bytes = bytes.new; word = result.word; mem = lines.new };
+      bufs = held b.new;
+    }) }
+    ensures same { IsSame b.new b.old }
+{
+    let kind = crate::table::kind_at(bytes, slot);
+    match slots::table::check_lent(bad, slot, kind, k, b) {
+        Err(reason) => Reply {
+            word,
+            answer: Err(reason),
+        },
+        Ok(()) => {
+            let r = render(around, kind, bytes, lines, word, slot, k, b);
+            Reply {
+                word: r.word,
+                answer: Ok(r.counts),
+            }
+        }
+    }
 }

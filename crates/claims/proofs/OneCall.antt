@@ -1,7 +1,7 @@
 -- One call of the bank beside its line of the ledger: what holds between the calls holds again after it. Assumes nothing.
 use mathlib.Core.Path.{◌≡◌, refl, sym, ap, ◌∙◌, subst}
 use mathlib.Core.Logic.{◌≢◌}
-use mathlib.Core.Bool.{Bool, true, false, cond, true≢false}
+use mathlib.Core.Bool.{Bool, true, false, not, cond, true≢false}
 use mathlib.Core.List.{List, [], ◌∷◌, map}
 use mathlib.Core.Option.{none, some}
 use Prim.Native.Nat.{ℕ, zero, suc, ◌+◌, ◌*◌, ◌≤◌, ◌<◌, suc-le-suc}
@@ -10,7 +10,7 @@ use native.Mathlib.Omega.{arith}
 use lib.ListN.{length, get_or, set, length-set, get_or-map}
 use lib.Seq.{get_or-set_same, get_or-set_other}
 use lib.Dec.{ltb, eqb}
-use borrow.Author.Tests.{le-ltb, lt-leb, eqb-true, eq-eqb, ltb-false}
+use borrow.Author.Tests.{le-ltb, lt-leb, eqb-true, eq-eqb, ltb-false, not-false}
 use lib.Ieee.{Float}
 use Rattle.ground.specs.Draw.{Draw, value, ending, words, moved, stream}
 use Rattle.ground.specs.Each.{Each}
@@ -28,7 +28,8 @@ use Rattle.slots.specs.Slots.{no_string, empty_slot, slot_at, with_slot}
 use Rattle.slots.specs.Calls.{Act, opening, reset, render, InF32, Voice, Done, act_def}
 use Rattle.slots.specs.Table.{Call, ◌⇐◌, first, checks, verdict, bad_slot, bad_slots, bad}
 use Rattle.bank.specs.World.{World, lines_at, with_lines, voice_at, Event, acted, call_by, call_def}
-use Rattle.bank.proofs.Accepted.{Sound, spared}
+use Rattle.bank.proofs.Accepted.{Sound, sound, spared}
+use Rattle.ground.proofs.Bools.{or_false}
 use Rattle.claims.specs.Ledger.{Led, fresh_led, Entry, act_entry, Line, line_by, line_of}
 use Rattle.claims.specs.Claim.{nothing, given, feed, of_done, listen, seen, total, call_order, Ordered}
 use Rattle.claims.proofs.Acts.{led_of, Follows, ByLedger, act_law}
@@ -75,9 +76,21 @@ no_bad (x ∷ xs) p =
       no_bad xs p.1,
     )
 
-not_bad : (w : World) → Inv w → bad w.bank w.mem ≡ false
+pub not_bad : (w : World) → Inv w → bad w.bank w.mem ≡ false
 unfolding bad
 not_bad w v = rw (v.full, no_bad w.bank.slots v.oks)
+
+-- number 1 leaves all that
+all_sound : (l : List Slot) → bad_slots l ≡ false → Each Sound l
+unfolding bad_slots
+all_sound [] e = tt
+all_sound (x ∷ xs) e = let o = or_false (bad_slot x) (bad_slots xs) e in (sound x o.0, all_sound xs o.1)
+
+pub inv_of : (w : World) → length w.bank.slots ≡ 8 → bad w.bank w.mem ≡ false → Inv w
+unfolding bad
+inv_of w l e =
+    let o = or_false (not (eqb (length w.mem) 10240)) (bad_slots w.bank.slots) e in
+    record { full = eqb-true (length w.mem) 10240 (not-false (eqb (length w.mem) 10240) o.0); eight = l; oks = all_sound w.bank.slots o.1 }
 
 -- ---- a call
 
@@ -216,3 +229,6 @@ module _ (w : World) (v : Inv w) (c : Call) where
       subst (λ (b : Bool). Step w (leds w) c (call_by (verdict b k c) w c) (line_by (verdict false l.kind c) (leds w) c)) (sym (not_bad w v))
       (subst (λ (x : Led). Step w (leds w) c (call_by (verdict false k c) w c) (line_by (verdict false x.kind c) (leds w) c)) (sym (led_at w c.slot))
       (by_verdict f (verdict false k c) refl))
+
+pub stays_sound : (w : World) → Inv w → (c : Call) → InF32 c.act → Inv (call_def w c).after
+stays_sound w v c f = (step w v c f).inv

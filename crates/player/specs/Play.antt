@@ -20,19 +20,19 @@ abbrev pub told_of : Result Counts Reason → Told
 told_of a = told (number_of a) (counts_of a)
 
 -- the frames of a render in the four buffers, and the buffers with others in their place
-abbrev pub parts : Cue → Bufs → Bufs
-parts q b =
+abbrev pub span : Cue → Bufs → Bufs
+span q b =
     let n = q.to - q.from in
     record { temp = part q.from n b.temp; temp2 = part q.from n b.temp2; out = part q.from n b.out; aux = part q.from n b.aux }
 
-abbrev pub put_parts : Cue → Bufs → Bufs → Bufs
-put_parts q new b =
+abbrev pub put_span : Cue → Bufs → Bufs → Bufs
+put_span q new b =
     let n = q.to - q.from in
     record { temp = put q.from n new.temp b.temp; temp2 = put q.from n new.temp2 b.temp2; out = put q.from n new.out b.out; aux = put q.from n new.aux b.aux }
 
--- the call that an event's render is, lent its parts of the buffers as the render before left them
+-- the call that an event's render is, lent its span of the buffers as the render before left them
 abbrev pub cue_call : Cue → Bufs → Call
-cue_call q b = record { slot = q.slot; act = render q.knobs (parts q b) }
+cue_call q b = record { slot = q.slot; act = render q.knobs (span q b) }
 
 -- what a call leaves in a world of W
 pub record Move (W : Type 0) : Type 0 where
@@ -54,7 +54,7 @@ module _ {W : Type 0} (move : W → Call → Move W) where
   unfoldable pub turn : Playing W → Cue → Playing W
   turn s q =
       let m = move s.world (cue_call q s.bufs) in
-      record { world = m.after; bufs = put_parts q m.bufs s.bufs; answers = set s.answers q.place m.told }
+      record { world = m.after; bufs = put_span q m.bufs s.bufs; answers = set s.answers q.place m.told }
 
   -- the turns of all, on answers that are all 0
   unfoldable pub turns : List Event → Playing W → Playing W

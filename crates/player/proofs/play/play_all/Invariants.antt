@@ -1,7 +1,7 @@
 -- `play::play_all` meets its contract: the turns done so far.
 use Rattle.noise.specs.Buffers.{held, IsSame}
 use Rattle.bank.specs.World.{World}
-use Rattle.player.specs.Play.{Playing}
+use Rattle.player.specs.Play.{Playing, bank_move}
 use Rattle.player.proofs.Turns.{Sofar}
 use Rattle.player.proofs.play.play_all.Given as goal
 
@@ -16,4 +16,4 @@ invariant-loop-i l = let s₀ : Playing World = record {
       bufs = held l.b;
       answers = l.answers;
     } in
-    Sofar l.sheet l.n s₀ l.i s × IsSame l.b l.fn.b
+    Sofar bank_move l.sheet l.n s₀ l.i s × IsSame l.b l.fn.b
