@@ -1,10 +1,11 @@
 -- A sheet on a bank that crosses as bytes. Assumes nothing.
-use Rattle.std.specs.Prelude.{Bool, true, false, List, ◌≡◌, ℕ}
+use Rattle.std.specs.Prelude.{Bool, true, false, List, ◌≡◌, ℕ, length}
 use Rattle.ground.specs.Each.{Each}
+use Rattle.ground.specs.Frames.{over}
 use Rattle.slots.specs.Table.{Call, bad}
 use Rattle.bank.specs.World.{World}
 use Rattle.player.specs.declared.sheet.Event.{Event}
-use Rattle.player.specs.Sheet.{AreF32, Cue}
+use Rattle.player.specs.Sheet.{AreF32, Cue, cues}
 use Rattle.player.specs.Play.{told, Move, Playing, turn, play_def, bank_move}
 use Rattle.slot_bytes.specs.Layout.{decode_bank}
 use Rattle.bank_abi.specs.Crossing.{is_bank, bad_bytes, Crossing, world_of, Crossed, cross_def}
@@ -25,6 +26,13 @@ pub record Turned (s : Playing Crossing) (q : Cue) (s' : Playing Crossing) : Typ
   pub is : turn cross_move s q ≡ s'
   pub agrees : turn bank_move (decoded_play s) q ≡ decoded_play s'
   pub good : bad_bytes s'.world.bytes s'.world.mem ≡ false
+
+-- and what all of them give
+pub record AllTurned (s : Playing Crossing) (es : List Event) (s' : Playing Crossing) : Type 0 where
+  pub is : over (turn cross_move) s (cues (length s.bufs.temp) es) ≡ s'
+  pub agrees : over (turn bank_move) (decoded_play s) (cues (length s.bufs.temp) es) ≡ decoded_play s'
+  pub good : bad_bytes s'.world.bytes s'.world.mem ≡ false
+  pub given : Each AreF32 es
 
 -- what an exported sheet gives: its number, and what is left
 pub record GivesSheet (s : Playing Crossing) (es : List Event) (r : ℕ × Playing Crossing) : Type 0 where

@@ -1,16 +1,14 @@
 // A sheet on the bytes of a bank.
 ghost use Rattle.std.specs.Prelude.{◌≡◌, ℕ, ◌≤◌, List, length, Ok, set, false};
-ghost use Rattle.ground.specs.Each.{Each};
-ghost use Rattle.ground.specs.Frames.{over};
 ghost use Rattle.noise.specs.Excitation.{Alike};
 ghost use Rattle.noise.specs.Buffers.{held, IsSame};
 ghost use Rattle.slots.specs.Answers.{number_of, counts_of};
 ghost use Rattle.slots.specs.Calls.{render};
 ghost use Rattle.player.specs.declared.play.Told.{Told};
-ghost use Rattle.player.specs.Sheet.{AreF32, cue_of, cues, sheet_verdict};
-ghost use Rattle.player.specs.Play.{told_of, turn, bank_move};
+ghost use Rattle.player.specs.Sheet.{AreF32, cue_of, sheet_verdict};
+ghost use Rattle.player.specs.Play.{told_of};
 ghost use Rattle.bank_abi.specs.Crossing.{bad_bytes, Gives};
-ghost use Rattle.bank_abi.specs.Sheets.{cross_move, decoded_play, Turned};
+ghost use Rattle.bank_abi.specs.Sheets.{Turned, AllTurned};
 
 use crate::voices::Reply;
 use noise::buffers::Buffers;
@@ -89,4 +87,41 @@ fn render_in(
         &mut out[from..to],
         &mut aux[from..to],
     )
+}
+
+// The events' turns, on bytes that are good; it gives the generator's word.
+#[inline(never)]
+pub fn play_all(
+    around: bool,
+    bytes: &mut [u8],
+    lines: &mut [f32],
+    word: u32,
+    sheet: &[Event],
+    answers: &mut [Told],
+    b: &mut Buffers,
+) -> u32
+    requires { (sheet_verdict false sheet.now (length answers.old) (held b.old) ≡ Ok tt) × (bad_bytes bytes.old lines.old ≡ false) }
+    ensures turned { AllTurned (record {
+      world = record { bytes = bytes.old; word = word; mem = lines.old };
+      bufs = held b.old;
+      answers = answers.old;
+    }) sheet.now (record {
+      world = record { bytes = bytes.new; word = result; mem = lines.new };
+      bufs = held b.new;
+      answers = answers.new;
+    }) }
+    ensures same { IsSame b.new b.old }
+{
+    let n = b.temp.len();
+    let mut word = word;
+    for i in 0..sheet.len() {
+        let e = sheet[i];
+        let to = until(n, e.slot, &sheet[i + 1..]);
+        let r = render_in(
+            around, bytes, lines, word, e, to, b.temp, b.temp_2, b.out, b.aux,
+        );
+        answers[i] = told_of(r.answer);
+        word = r.word;
+    }
+    word
 }
