@@ -1,10 +1,17 @@
 -- A sheet on bytes: what a render leaves of a turn, and that good bytes stay good. Assumes nothing.
 use mathlib.Core.Path.{◌≡◌, refl, sym, ap, ◌∙◌, subst}
-use mathlib.Core.Bool.{Bool, true, false, not, ◌||◌}
+use mathlib.Core.Bool.{Bool, true, false, not}
 use mathlib.Core.List.{List}
 use Prim.Native.Nat.{ℕ, ◌+◌, ◌≤◌, ◌<◌}
-use lib.ListN.{length, drop, set}
+use lib.ListN.{length, drop, set, replicate}
 use lib.Ieee.{Float}
+use native.Mathlib.Omega.{arith}
+use Rattle.std.specs.Prelude.{Result, Ok, Err}
+use Rattle.slots.specs.declared.answers.Knob.{Knob}
+use Rattle.slots.specs.declared.answers.Knob.TheVariants as K
+use Rattle.slots.specs.declared.answers.Reason.{Reason}
+use Rattle.slots.specs.declared.answers.Reason.TheVariants as R
+use Rattle.slots.specs.Answers.{knob_number, reason_number, no_counts}
 use Rattle.noise.specs.declared.excitation.Knobs.{Knobs}
 use Rattle.noise.specs.declared.excitation.Counts.{Counts}
 use Rattle.noise.specs.Excitation.{Alike}
@@ -16,12 +23,12 @@ use Rattle.claims.proofs.OneCall.{Inv, inv_of, not_bad, stays_sound}
 use Rattle.player.specs.declared.play.Told.{Told}
 use Rattle.player.specs.declared.sheet.Event.{Event}
 use Rattle.player.specs.Owners.{event_at}
-use Rattle.player.specs.Sheet.{AreF32, until, Cue, cue_of}
-use Rattle.player.specs.Play.{told, span, put_span, Move, Playing, turn, bank_move}
-use Rattle.player.proofs.Turns.{turned, Sofar, begun, again, all_done, all_given}
+use Rattle.player.specs.Sheet.{AreF32, sheet_verdict, until, Cue, cue_of}
+use Rattle.player.specs.Play.{told, refused_answers, span, put_span, Playing, bank_move}
+use Rattle.player.proofs.Turns.{turned, Sofar, begun, again, all_done, all_given, refused_whole, played_whole}
 use Rattle.slot_bytes.specs.Layout.{parts, decode_bank}
-use Rattle.bank_abi.specs.Crossing.{is_bank, bad_bytes, Crossing, world_of, Crossed, numbers_of, decoded, Gives}
-use Rattle.bank_abi.specs.Sheets.{crossed, cross_move, decoded_play, Turned, AllTurned}
+use Rattle.bank_abi.specs.Crossing.{is_bank, bad_bytes, Crossing, world_of, Crossed, Gives}
+use Rattle.bank_abi.specs.Sheets.{crossed, cross_move, decoded_play, Turned, AllTurned, GivesSheet}
 
 -- ---- good bytes
 
@@ -104,3 +111,62 @@ both_done f h =
       good = f.good;
       given = all_given cross_move f.bytes h;
     }
+
+-- ---- a sheet by the table's word
+
+knob_above : (k : Knob) → knob_number k ≡ 0 → ⊥
+knob_above K.F0 e = absurd (omega (arith, e))
+knob_above K.Accent e = absurd (omega (arith, e))
+knob_above K.Structure e = absurd (omega (arith, e))
+knob_above K.Brightness e = absurd (omega (arith, e))
+knob_above K.Damping e = absurd (omega (arith, e))
+
+above : (r : Reason) → reason_number r ≡ 0 → ⊥
+above R.Memory e = absurd (omega (arith, e))
+above R.NoSlot e = absurd (omega (arith, e))
+above R.Kind e = absurd (omega (arith, e))
+above R.SampleRate e = absurd (omega (arith, e))
+above R.Empty e = absurd (omega (arith, e))
+above R.NoReset e = absurd (omega (arith, e))
+above R.Lengths e = absurd (omega (arith, e))
+above R.TooLong e = absurd (omega (arith, e))
+above (R.OutOfRange k) e = knob_above k e
+above R.TooMany e = absurd (omega (arith, e))
+above R.OutOfOrder e = absurd (omega (arith, e))
+above R.PastEnd e = absurd (omega (arith, e))
+
+module _ (s : Playing Crossing) (es : List Event) where
+  number_one : Bool
+  number_one = bad_bytes s.world.bytes s.world.mem
+
+  -- of bytes that are a bank, number 1 is the bank's
+  same_number : is_bank s.world.bytes ≡ true → number_one ≡ bad (decode_bank s.world.bytes) s.world.mem
+  unfolding bad_bytes number_one
+  same_number e = rw e
+
+  same_verdict : {v : Result (Unit {0}) Reason} → is_bank s.world.bytes ≡ true → sheet_verdict number_one es (length s.answers) s.bufs ≡ v
+      → sheet_verdict (bad (decode_bank s.world.bytes) s.world.mem) es (length s.answers) s.bufs ≡ v
+  same_verdict b e = ap (λ (x : Bool). sheet_verdict x es (length s.answers) s.bufs) (sym (same_number b)) ∙ e
+
+  pub sheet_refused : (r : Reason) {n : ℕ} {ts : List Told} → sheet_verdict (bad_bytes s.world.bytes s.world.mem) es (length s.answers) s.bufs ≡ Err r
+      → n ≡ reason_number r → ts ≡ refused_answers r s.answers → GivesSheet s es (n, record s { answers = ts })
+  unfolding number_one
+  sheet_refused r {n} {ts} e en et =
+      record {
+        is = refused_whole cross_move number_one es s r e ∙ λ i. (sym en i, record s { answers = sym et i });
+        agrees = λ b. refused_whole bank_move (bad (decode_bank s.world.bytes) s.world.mem) es (decoded_play s) r (same_verdict b e)
+            ∙ λ i. (sym en i, record (decoded_play s) { answers = sym et i });
+        stays = λ b. b;
+        given = λ z. absurd (above r (sym en ∙ z));
+      }
+
+  pub sheet_played : (ts : List Told) (s' : Playing Crossing) → sheet_verdict (bad_bytes s.world.bytes s.world.mem) es (length s.answers) s.bufs ≡ Ok tt
+      → ts ≡ replicate 64 (told 0 no_counts) → AllTurned (record s { answers = ts }) es s' → GivesSheet s es (0, s')
+  unfolding number_one
+  sheet_played ts s' e et t =
+      record {
+        is = played_whole cross_move number_one es s ts s' e et t.is;
+        agrees = λ b. played_whole bank_move (bad (decode_bank s.world.bytes) s.world.mem) es (decoded_play s) ts (decoded_play s') (same_verdict b e) et t.agrees;
+        stays = λ b. (good_bank s'.world.bytes s'.world.mem t.good).bank;
+        given = λ z. t.given;
+      }

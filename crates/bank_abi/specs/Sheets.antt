@@ -1,5 +1,5 @@
 -- A sheet on a bank that crosses as bytes. Assumes nothing.
-use Rattle.std.specs.Prelude.{Bool, true, false, List, ◌≡◌, ℕ, length}
+use Rattle.std.specs.Prelude.{true, false, List, ◌≡◌, ℕ, length}
 use Rattle.ground.specs.Each.{Each}
 use Rattle.ground.specs.Frames.{over}
 use Rattle.slots.specs.Table.{Call, bad}

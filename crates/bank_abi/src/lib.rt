@@ -7,14 +7,17 @@ ghost use Rattle.slots.specs.Answers.{no_counts};
 ghost use Rattle.slots.specs.Calls.{opening, reset, render, lent};
 ghost use Rattle.slot_bytes.specs.Layout.{encode_bank};
 ghost use Rattle.bank_abi.specs.Crossing.{fresh_def, Gives};
+ghost use Rattle.bank_abi.specs.Sheets.{GivesSheet};
 
-pub mod player;
+pub mod sheets;
 pub mod table;
 pub mod voices;
 
 use noise::buffers::Buffers;
 use noise::excitation::Knobs;
-use slots::answers::{Reason, counts_of, number_of};
+use player::play::{Told, refuse, tell_all, told_of};
+use player::sheet::{Event, check_sheet};
+use slots::answers::{NO_COUNTS, Reason, counts_of, number_of};
 
 // The length of a bank in bytes.
 #[tactic(auto, using(crate::proofs::Zeros::fresh_zeros))]
@@ -158,4 +161,57 @@ pub extern "C" fn bleidhvan_render(
     *dust = counts.dust;
     *dispersion = counts.dispersion;
     number_of(r.answer)
+}
+
+// A sheet of events into the buffers: each event's render, in the sheet's order; the generator's word is lent, and the answers are written.
+// Number 1 is asked once for the sheet, and only the slots that events name are decoded.
+#[unsafe(no_mangle)]
+pub extern "C" fn bleidhvan_play(
+    bytes: &mut [u8],
+    lines: &mut [f32],
+    word: &mut u32,
+    sheet: &[Event],
+    answers: &mut [Told],
+    temp: &mut [f32],
+    temp_2: &mut [f32],
+    out: &mut [f32],
+    aux: &mut [f32],
+    slow_subnormals: bool,
+) -> u32
+    ensures { GivesSheet (record {
+      world = record { bytes = bytes.old; word = word.old; mem = lines.old };
+      bufs = record { temp = temp.old; temp2 = temp_2.old; out = out.old; aux = aux.old };
+      answers = answers.old;
+    }) sheet.now (result, record {
+      world = record { bytes = bytes.new; word = word.new; mem = lines.new };
+      bufs = record { temp = temp.new; temp2 = temp_2.new; out = out.new; aux = aux.new };
+      answers = answers.new;
+    }) }
+{
+    let mut b = Buffers {
+        temp,
+        temp_2,
+        out,
+        aux,
+    };
+    let bad = crate::table::bad(bytes, lines);
+    match check_sheet(bad, sheet, answers.len(), &b) {
+        Err(reason) => {
+            refuse(reason, answers);
+            u32::from(reason)
+        }
+        Ok(()) => {
+            tell_all(told_of(Ok(NO_COUNTS)), answers);
+            *word = crate::sheets::play_all(
+                slow_subnormals,
+                bytes,
+                lines,
+                *word,
+                sheet,
+                answers,
+                &mut b,
+            );
+            0
+        }
+    }
 }

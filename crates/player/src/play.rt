@@ -50,7 +50,7 @@ pub fn told_of(answer: Answer) -> Told
 }
 
 // One answer in all places.
-fn tell_all(t: Told, answers: &mut [Told])
+pub fn tell_all(t: Told, answers: &mut [Told])
     ensures { answers.new ≡ replicate (length answers.old) t }
 {
     answers.fill(t);

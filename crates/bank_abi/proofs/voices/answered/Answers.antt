@@ -6,7 +6,6 @@ use Rattle.slots.specs.Calls.{render}
 use Rattle.slots.specs.Slots.{slot_at}
 use Rattle.slots.specs.Table.{Call}
 use Rattle.slot_bytes.specs.Layout.{decode_bank}
-use Rattle.bank_abi.specs.Crossing.{Crossing}
 use Rattle.bank_abi.proofs.Crosses.{kind_read, decided, taken, refused, accepted}
 use Rattle.bank_abi.proofs.voices.answered.Goals as goal
 

@@ -1,11 +1,11 @@
--- `player::render_into` meets its contract: the buffers are those lent.
+-- `sheets::render_into` meets its contract: the buffers are those lent.
 use Rattle.std.proofs.Common.{rules}
 use Rattle.noise.proofs.Lent.{lent_back}
 use Rattle.slots.specs.Answers.{number_of, counts_of}
 use Rattle.slots.specs.Calls.{render}
 use Rattle.slots.specs.Table.{Call}
 use Rattle.bank_abi.specs.Crossing.{Crossing, Gives}
-use Rattle.bank_abi.proofs.player.render_into.Goals as goal
+use Rattle.bank_abi.proofs.sheets.render_into.Goals as goal
 
 pub returns : goal.returns
 returns c =

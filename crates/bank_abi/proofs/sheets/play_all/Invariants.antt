@@ -1,9 +1,9 @@
--- `player::play_all` meets its contract: the turns done so far.
+-- `sheets::play_all` meets its contract: the turns done so far.
 use Rattle.noise.specs.Buffers.{held, IsSame}
 use Rattle.player.specs.Play.{Playing}
 use Rattle.bank_abi.specs.Crossing.{Crossing}
 use Rattle.bank_abi.proofs.Plays.{Both}
-use Rattle.bank_abi.proofs.player.play_all.Given as goal
+use Rattle.bank_abi.proofs.sheets.play_all.Given as goal
 
 abbrev pub invariant-loop-i : goal.invariant-loop-i
 invariant-loop-i l = let s₀ : Playing Crossing = record {

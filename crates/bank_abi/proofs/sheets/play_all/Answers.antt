@@ -1,5 +1,5 @@
--- `player::play_all` meets its contract: a turn more at each event.
-use Rattle.std.proofs.Common.{rules, arith, length, ◌+◌, sym, refl, false, ◌∙◌, set, ap, subst}
+-- `sheets::play_all` meets its contract: a turn more at each event.
+use Rattle.std.proofs.Common.{rules, arith, length, ◌+◌, sym, refl, false, set, subst}
 use Rattle.noise.specs.Buffers.{held}
 use Rattle.player.specs.declared.play.Told.{Told}
 use Rattle.player.specs.Owners.{event_at}
@@ -10,7 +10,7 @@ use Rattle.player.proofs.Turns.{following, lies_now}
 use Rattle.bank_abi.specs.Crossing.{Crossing}
 use Rattle.bank_abi.specs.Sheets.{cross_move, Turned}
 use Rattle.bank_abi.proofs.Plays.{both_begun, both_again, both_done}
-use Rattle.bank_abi.proofs.player.play_all.Goals as goal
+use Rattle.bank_abi.proofs.sheets.play_all.Goals as goal
 
 pub loop-i-init : goal.loop-i-init
 loop-i-init c =
