@@ -94,8 +94,8 @@ unfolding acted
 small_after act slot s word mem o l h i e =
     let v : Voice = record { slot = s; lines = lines_at slot mem } in
     let size : length (lines_at slot mem) ≡ 1280 = length_part (1280 * slot) 1280 mem (omega arith) in
-    let a = draws_always _ (Follows (act_entry act (led_of s))) (act_def act v) (act_law act v o size i e) in
-    let k = (always_run (Follows (act_entry act (led_of s))) (act_def act v) word a refl).ok in
+    let a = draws_always _ (Follows act (act_entry act (led_of s))) (act_def act v) (act_law act v o size i e) in
+    let k = (always_run (Follows act (act_entry act (led_of s))) (act_def act v) word a refl).ok in
     record { kind = omega (arith, k.known); string = omega (arith, k.string); stretch = omega (arith, k.stretch); left = omega (arith, k.left) }
 
 -- ---- the two cases

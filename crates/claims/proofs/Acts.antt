@@ -23,7 +23,7 @@ use Rattle.modal_voice.proofs.Drawn as modal
 use Rattle.std.specs.Prelude.{Ok}
 use Rattle.slots.specs.declared.slots.Slot.{Slot}
 use Rattle.slots.specs.Slots.{no_string}
-use Rattle.slots.specs.Calls.{Bufs, Act, opening, reset, render, InF32, Voice, Done, open_def, reset_def, string_def, modal_def, render_def, act_def}
+use Rattle.slots.specs.Calls.{Bufs, Act, opening, reset, render, InF32, lent, Voice, Done, open_def, reset_def, string_def, modal_def, render_def, act_def}
 use Rattle.slots.specs.Table.{first, in_range, lowest, checks}
 use Rattle.noise.specs.Excitation.{Alike}
 use Rattle.bank.proofs.Accepted.{Sound, all_spared, render_spared, alike_lent}
@@ -36,16 +36,27 @@ use Rattle.claims.proofs.Agreement.{left_is, phase_is, dispersion_is}
 abbrev pub led_of : Slot → Led
 led_of x = record { kind = x.kind; left = x.string.remaining_noise_samples; phase = x.string.string.src_phase }
 
--- what a call for one voice leaves is what the ledger says
-pub record Follows (e : Entry) (d : Done) : Type 0 where
+-- buffers of the same lengths
+pub record SameSizes (b c : Bufs) : Type 0 where
+  pub temp : length b.temp ≡ length c.temp
+  pub temp2 : length b.temp2 ≡ length c.temp2
+  pub out : length b.out ≡ length c.out
+  pub aux : length b.aux ≡ length c.aux
+
+pub same_sizes : (b : Bufs) → SameSizes b b
+same_sizes b = record { temp = refl; temp2 = refl; out = refl; aux = refl }
+
+-- what a call for one voice leaves is what the ledger says, and its buffers keep their lengths
+pub record Follows (a : Act) (e : Entry) (d : Done) : Type 0 where
   pub led : led_of d.voice.slot ≡ e.led
   pub ok : Sound d.voice.slot
   pub lines : length d.voice.lines ≡ 1280
   pub counts : d.counts ≡ e.counts
+  pub sizes : SameSizes d.bufs (lent a)
 
 -- it draws as many words as the ledger counts
-abbrev pub ByLedger : Entry → Draw Done → Type 0
-ByLedger e m = Draws (total e.counts) (Follows e) m
+abbrev pub ByLedger : Act → Entry → Draw Done → Type 0
+ByLedger a e m = Draws (total e.counts) (Follows a e) m
 
 -- ---- a string's render
 
@@ -66,14 +77,14 @@ module _ (k : Knobs) (b : Bufs) (v : Voice) (o : Sound v.slot) (e : length v.lin
           dispersion = dispersion_is k v.slot.string.string n t s i;
         }
 
-    string_law : ByLedger (string_entry k (length b.temp) (led_of v.slot)) (string_def k b v)
+    string_law : ByLedger (render k b) (string_entry k (length b.temp) (led_of v.slot)) (string_def k b v)
     unfolding string_def string_entry
     string_law =
         let n = length b.temp in
         let x = v.slot.string in
         let l = string_entry k n (led_of v.slot) in
         let m = render_of k x v.lines b.temp b.temp2 b.out b.aux in
-        draws_then (total l.counts) (string.Left k x n) (Follows l) m _
+        draws_then (total l.counts) (string.Left k x n) (Follows (render k b) l) m _
         (subst (λ (j : ℕ). Draws j (string.Left k x n) m)
         (in_order k.sustain (string.left_at k x) n (string.dispersion_words k x.string n) ∙ ap total counts_are)
         (string.render_draws k x n v.lines b.temp b.temp2 b.out b.aux (record { size = e; string = o.string; stretch = o.stretch }) refl a.temp2_is a.out_is
@@ -92,18 +103,19 @@ module _ (k : Knobs) (b : Bufs) (v : Voice) (o : Sound v.slot) (e : length v.lin
           };
           lines = h.string.good.size;
           counts = h.counts ∙ counts_are;
+          sizes = record { temp = h.temp; temp2 = h.temp2 ∙ sym a.temp2_is; out = h.out ∙ sym a.out_is; aux = h.aux ∙ sym a.aux_is };
         })
 
   -- ---- a modal render
 
-  modal_law : ByLedger (modal_entry k (length b.temp) (led_of v.slot)) (modal_def k b v)
+  modal_law : ByLedger (render k b) (modal_entry k (length b.temp) (led_of v.slot)) (modal_def k b v)
   unfolding modal_def modal_entry
   modal_law =
       let n = length b.temp in
       let d = modal-specs.excitation_words k.sustain n in
       let m = modal-specs.render_of k v.slot.modal b.temp b.temp2 b.out b.aux in
       let P = modal.Left k v.slot.modal n in
-      draws_then (0 + d + 0) P (Follows (modal_entry k n (led_of v.slot))) m _
+      draws_then (0 + d + 0) P (Follows (render k b) (modal_entry k n (led_of v.slot))) m _
       (subst (λ (j : ℕ). Draws j P m) (omega arith)
       (modal.render_draws k v.slot.modal n b.temp b.temp2 b.out b.aux refl a.temp2_is a.out_is a.aux_is))
       (λ q h. record {
@@ -111,6 +123,7 @@ module _ (k : Knobs) (b : Bufs) (v : Voice) (o : Sound v.slot) (e : length v.lin
         ok = record { known = o.known; string = o.string; stretch = o.stretch; left = o.left };
         lines = e;
         counts = h.counts;
+        sizes = record { temp = h.temp; temp2 = h.temp2 ∙ sym a.temp2_is; out = h.out ∙ sym a.out_is; aux = h.aux ∙ sym a.aux_is };
       })
 
 -- ---- the table
@@ -133,7 +146,7 @@ knob_in x t =
 -- ---- every call for one voice
 
 open_law : (kind : ℕ) (rate : Float) (v : Voice) → length v.lines ≡ 1280 → T (eqb kind 1 || eqb kind 2)
-    → Follows (act_entry (opening kind rate) (led_of v.slot)) (open_def kind rate v)
+    → Follows (opening kind rate) (act_entry (opening kind rate) (led_of v.slot)) (open_def kind rate v)
 unfolding act_entry open_def voice_init voice_new string_new string_init string_reset no_string
 open_law zero rate v e t = absurd t
 open_law (suc zero) rate v e t =
@@ -142,6 +155,7 @@ open_law (suc zero) rate v e t =
       ok = record { known = lit≤ tt; string = lit< tt; stretch = lit< tt; left = zero-le };
       lines = length-replicate (length v.lines) c0 ∙ e;
       counts = refl;
+      sizes = record { temp = refl; temp2 = refl; out = refl; aux = refl };
     }
 open_law (suc (suc zero)) rate v e t =
     record {
@@ -149,6 +163,7 @@ open_law (suc (suc zero)) rate v e t =
       ok = record { known = lit≤ tt; string = lit< tt; stretch = lit< tt; left = zero-le };
       lines = length-replicate (length v.lines) c0 ∙ e;
       counts = refl;
+      sizes = record { temp = refl; temp2 = refl; out = refl; aux = refl };
     }
 open_law (suc (suc (suc j))) rate v e t = let kind = suc (suc (suc j)) in absurd
     (above_two kind (omega arith) (eqb kind 1) (eqb kind 2) (eqb→eq kind 1) (eqb→eq kind 2) t)
@@ -158,7 +173,7 @@ open_law (suc (suc (suc j))) rate v e t = let kind = suc (suc (suc j)) in absurd
     above_two kind l false true f g t = omega (arith, g tt)
     above_two kind l false false f g t = t
 
-reset_law : (v : Voice) → Sound v.slot → length v.lines ≡ 1280 → Follows (act_entry reset (led_of v.slot)) (reset_def v)
+reset_law : (v : Voice) → Sound v.slot → length v.lines ≡ 1280 → Follows reset (act_entry reset (led_of v.slot)) (reset_def v)
 unfolding act_entry reset_def voice_reset string_reset
 reset_law v o e =
     record {
@@ -166,18 +181,19 @@ reset_law v o e =
       ok = record { known = o.known; string = lit< tt; stretch = lit< tt; left = o.left };
       lines = length-replicate (length v.lines) c0 ∙ e;
       counts = refl;
+      sizes = record { temp = refl; temp2 = refl; out = refl; aux = refl };
     }
 
 render_law : (kind : ℕ) (k : Knobs) (b : Bufs) (v : Voice) → Sound v.slot → length v.lines ≡ 1280 → Alike b.temp b.temp2 b.out b.aux
     → Fundamental k.f0 → Knob k.structure → T (fits binary32 k.structure)
-    → ByLedger (render_entry kind k (length b.temp) (led_of v.slot)) (render_def kind k b v)
+    → ByLedger (render k b) (render_entry kind k (length b.temp) (led_of v.slot)) (render_def kind k b v)
 unfolding render_entry render_def
-render_law zero k b v o e a f s t = (refl, record { led = refl; ok = o; lines = e; counts = refl })
+render_law zero k b v o e a f s t = (refl, record { led = refl; ok = o; lines = e; counts = refl; sizes = same_sizes b })
 render_law (suc zero) k b v o e a f s t = string_law k b v o e a f s t
 render_law (suc (suc j)) k b v o e a f s t = modal_law k b v o e a
 
 pub act_law : (a : Act) (v : Voice) → Sound v.slot → length v.lines ≡ 1280 → InF32 a → first (checks v.slot.kind a) ≡ Ok tt
-    → ByLedger (act_entry a (led_of v.slot)) (act_def a v)
+    → ByLedger a (act_entry a (led_of v.slot)) (act_def a v)
 unfolding act_def act_entry checks
 act_law (opening kind rate) v o e i p =
     let c = all_spared (checks v.slot.kind (opening kind rate)) p in

@@ -5,4 +5,5 @@ pub mod Order
 pub mod OneCall
 pub mod Tables
 pub mod Whole
+pub mod Items
 pub mod Values

@@ -25,14 +25,14 @@ use Rattle.slots.specs.declared.answers.Reason.{Reason}
 use Rattle.slots.specs.declared.answers.Reason.TheVariants.{Memory, NoSlot}
 use Rattle.slots.specs.Answers.{counts_of}
 use Rattle.slots.specs.Slots.{no_string, empty_slot, slot_at, with_slot}
-use Rattle.slots.specs.Calls.{Act, opening, reset, render, InF32, Voice, Done, act_def}
+use Rattle.slots.specs.Calls.{Act, opening, reset, render, InF32, lent, Voice, Done, act_def}
 use Rattle.slots.specs.Table.{Call, ◌⇐◌, first, checks, verdict, bad_slot, bad_slots, bad}
 use Rattle.bank.specs.World.{World, lines_at, with_lines, voice_at, Event, acted, call_by, call_def}
 use Rattle.bank.proofs.Accepted.{Sound, sound, spared}
 use Rattle.ground.proofs.Bools.{or_false}
 use Rattle.claims.specs.Ledger.{Led, fresh_led, Entry, act_entry, Line, line_by, line_of}
 use Rattle.claims.specs.Claim.{nothing, given, feed, of_done, listen, seen, total, call_order, Ordered}
-use Rattle.claims.proofs.Acts.{led_of, Follows, ByLedger, act_law}
+use Rattle.claims.proofs.Acts.{led_of, SameSizes, same_sizes, Follows, ByLedger, act_law}
 use Rattle.claims.proofs.Order.{order_law}
 
 map_set : {A B : Type 0} (f : A → B) (l : List A) (i : ℕ) (y : A) → map f (set l i y) ≡ set (map f l) i (f y)
@@ -102,6 +102,7 @@ pub record Step (w : World) (ls : List Led) (c : Call) (e : Event) (l : Line) : 
   pub ends_is : e.after.word ≡ moved (total (counts_of e.answer)) w.word
   pub alone_is : (s : ℕ) → s < 8 → listen (voice_at s w) (feed s c l.answer e.dealt) ≡ some (seen s e)
   pub ordered_is : Ordered e
+  pub sizes : SameSizes e.bufs (lent c.act)
 
 -- a refused call is dealt no words
 pub none_dealt : (a : Act) (r : Reason) (v : Voice) (word : ℕ) → call_order a (Err r) v word []
@@ -126,22 +127,22 @@ module _ (w : World) (v : Inv w) (c : Call) where
     en : Entry
     en = act_entry c.act (led_of (slot_at w.bank c.slot))
 
-    law : ByLedger en m
+    law : ByLedger c.act en m
     unfolding m en
     law =
         act_law c.act (voice_at c.slot w) (each_at Sound w.bank.slots c.slot empty_slot slot_within v.oks)
         (length_part (1280 * c.slot) 1280 w.mem lines_in) f p
 
-    good : Follows en d
+    good : Follows c.act en d
     unfolding d
-    good = always_run (Follows en) m w.word (draws_always (total en.counts) (Follows en) m law) refl
+    good = always_run (Follows c.act en) m w.word (draws_always (total en.counts) (Follows c.act en) m law) refl
 
     entry_is : act_entry c.act (get_or (leds w) c.slot fresh_led) ≡ en
     unfolding en
     entry_is = ap (act_entry c.act) (led_at w c.slot)
 
     many : length (words m w.word) ≡ total d.counts
-    many = draws_length (total en.counts) (Follows en) m w.word law ∙ ap total (sym good.counts)
+    many = draws_length (total en.counts) (Follows c.act en) m w.word law ∙ ap total (sym good.counts)
 
     after : World
     after = record { bank = with_slot w.bank c.slot d.voice.slot; word = ending m w.word; mem = with_lines c.slot d.voice.lines w.mem }
@@ -197,6 +198,7 @@ module _ (w : World) (v : Inv w) (c : Call) where
           alone_is = λ s k. heard s (eqb c.slot s) refl;
           ordered_is = order_law c.act (voice_at c.slot w) w.word (each_at Sound w.bank.slots c.slot empty_slot slot_within v.oks)
               (length_part (1280 * c.slot) 1280 w.mem lines_in) p;
+          sizes = good.sizes;
         }
 
   refused : (r : Reason) → Step w (leds w) c (call_by (Err r) w c) (line_by (Err r) (leds w) c)
@@ -210,6 +212,7 @@ module _ (w : World) (v : Inv w) (c : Call) where
     alone_is = λ s k. refl;
     ordered_is = none_dealt c.act r
         (voice_at c.slot w) w.word;
+    sizes = same_sizes (lent c.act);
   }
 
   by_verdict : InF32 c.act → (r : Result (Unit {0}) Reason) → verdict false (slot_at w.bank c.slot).kind c ≡ r

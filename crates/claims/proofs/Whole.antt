@@ -32,19 +32,19 @@ use Rattle.claims.proofs.OneCall.{Inv, leds, Step, none_dealt, step}
 
 -- ---- the list
 
-record Facts (w : World) (calls : List Call) (es : List Event) (ns : List Line) : Type 0 where
-  answers : map (λ e. e.answer) es ≡ map (λ l. l.answer) ns
-  dealt_is : dealt es ≡ stream (drawn es) w.word
-  ends : (end_from w calls).word ≡ moved (drawn es) w.word
-  apart : (s : ℕ) → s < 8 → alone (voice_at s w) (feeds s calls ns (map (λ e. e.dealt) es)) ≡ some (map (seen s) es)
-  in_order : Each Ordered es
+pub record Facts (w : World) (calls : List Call) (es : List Event) (ns : List Line) : Type 0 where
+  pub answers : map (λ e. e.answer) es ≡ map (λ l. l.answer) ns
+  pub dealt_is : dealt es ≡ stream (drawn es) w.word
+  pub ends : (end_from w calls).word ≡ moved (drawn es) w.word
+  pub apart : (s : ℕ) → s < 8 → alone (voice_at s w) (feeds s calls ns (map (λ e. e.dealt) es)) ≡ some (map (seen s) es)
+  pub in_order : Each Ordered es
 
 hear_on : (v v' : Voice) (f : Feed) (fs : List Feed) (h : Noted) (hs : List Noted) → listen v f ≡ some h → h.voice ≡ v' → alone v' fs ≡ some hs
     → alone v (f ∷ fs) ≡ some (h ∷ hs)
 hear_on v v' f fs h hs p q r =
     ap (λ (o : Option Noted). go_on o (λ u. alone u fs)) p ∙ ap (λ (u : Voice). note h (alone u fs)) q ∙ ap (note h) r
 
-facts : (calls : List Call) (w : World) (ls : List Led) → ls ≡ leds w → Inv w → Each (λ c. InF32 c.act) calls
+pub facts : (calls : List Call) (w : World) (ls : List Led) → ls ≡ leds w → Inv w → Each (λ c. InF32 c.act) calls
     → Facts w calls (run_from w calls) (ledger_from 10240 ls calls)
 unfolding run_from ledger_from end_from
 facts [] w ls q v f = record { answers = refl; dealt_is = refl; ends = refl; apart = λ s h. refl; in_order = tt }
@@ -119,11 +119,11 @@ record Idle (w : World) (calls : List Call) (es : List Event) (ns : List Line) :
   in_order : Each Ordered es
 
 module _ (w : World) (d : length w.mem ≢ 10240) where
-  one_event : (c : Call) → call_def w c ≡ call_by (Err Memory) w c
+  pub one_event : (c : Call) → call_def w c ≡ call_by (Err Memory) w c
   unfolding call_def bad verdict first
   one_event c = rw (ne_eqb (length w.mem) 10240 d)
 
-  one_line : (ls : List Led) (c : Call) → line_of (length w.mem) ls c ≡ line_by (Err Memory) ls c
+  pub one_line : (ls : List Led) (c : Call) → line_of (length w.mem) ls c ≡ line_by (Err Memory) ls c
   unfolding line_of verdict first
   one_line ls c = rw (ne_eqb (length w.mem) 10240 d)
 
@@ -151,7 +151,7 @@ empty_ok : Sound empty_slot
 unfolding empty_slot no_string string_voice.voice_new string_new
 empty_ok = record { known = lit≤ tt; string = lit< tt; stretch = lit< tt; left = zero-le }
 
-fresh_inv : (seed : ℕ) (mem : List Float) → length mem ≡ 10240 → Inv (start seed mem)
+pub fresh_inv : (seed : ℕ) (mem : List Float) → length mem ≡ 10240 → Inv (start seed mem)
 unfolding fresh_bank
 fresh_inv seed mem e =
     record {
@@ -160,7 +160,7 @@ fresh_inv seed mem e =
       oks = (empty_ok, (empty_ok, (empty_ok, (empty_ok, (empty_ok, (empty_ok, (empty_ok, (empty_ok, tt))))))));
     }
 
-fresh_leds : (seed : ℕ) (mem : List Float) → replicate 8 fresh_led ≡ leds (start seed mem)
+pub fresh_leds : (seed : ℕ) (mem : List Float) → replicate 8 fresh_led ≡ leds (start seed mem)
 unfolding fresh_bank empty_slot no_string string_voice.voice_new string_new
 fresh_leds seed mem = refl
 
@@ -209,14 +209,19 @@ module _ (seed : ℕ) (mem : List Float) (calls : List Call) where
       none_below : (k n : ℕ) → n ≡ 0 → k < n → ⊥
       none_below k n e h = omega arith
 
+-- of every list of calls that are asked as f32s
+pub account_of : (seed : ℕ) (mem : List Float) (calls : List Call) → Each (λ c. InF32 c.act) calls
+    → Account seed mem calls (run_from (start seed mem) calls) (ledger (length mem) calls)
+account_of seed mem calls f = go (ℕ_discrete (length mem) 10240)
+  where
+    go : Dec (length mem ≡ 10240) → Account seed mem calls (run_from (start seed mem) calls) (ledger (length mem) calls)
+    go (yes e) = full seed mem calls e f
+    go (no d) = other seed mem calls d
+
 all_f32 : (asked : List Asked) → Each (λ c. InF32 c.act) (calls_of asked)
 all_f32 [] = tt
 all_f32 (a ∷ asked) = (a.f32, all_f32 asked)
 
 pub demand_3 : Demand3
 unfolding Demand3
-demand_3 seed l mem asked = go (ℕ_discrete (length mem) 10240)
-  where
-    go : Dec (length mem ≡ 10240) → Account seed mem (calls_of asked) (run_from (start seed mem) (calls_of asked)) (ledger (length mem) (calls_of asked))
-    go (yes e) = full seed mem (calls_of asked) e (all_f32 asked)
-    go (no d) = other seed mem (calls_of asked) d
+demand_3 seed l mem asked = account_of seed mem (calls_of asked) (all_f32 asked)
