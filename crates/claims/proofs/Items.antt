@@ -36,6 +36,7 @@ use Rattle.claims.specs.Items.{Item, one, sheet, play_events, sheet_events, Made
 use Rattle.claims.specs.Items.{item_line, slots_after, items_from, items_ledger, all_lines, all_calls, blank_act, blank, KeptItem, KeptItems, ItemAccount, Demand3Items}
 use Rattle.claims.proofs.Acts.{SameSizes, same_sizes}
 use Rattle.claims.proofs.OneCall.{Inv, leds, not_bad, Step, step}
+use Rattle.player.proofs.Accepted.{taken}
 use Rattle.player.proofs.Owners.{one_each}
 use Rattle.claims.proofs.Whole.{facts, fresh_inv, fresh_leds, one_event, one_line, account_of}
 
@@ -377,3 +378,140 @@ module _ (w : World) (es : List SheetEvent) (ts : List Told) (b : Bufs) where
           ap (slots_after (leds w)) l ∙ h.1 ∙ ap leds (sym k.run.ends),
         );
       }
+
+-- a sheet where the ledger has the bank's slots: whether it is refused is told by the table, which both ask
+sheet_in : (w : World) (es : List SheetEvent) (ts : List Told) (b : Bufs) → Inv w → (r : Result (Unit {0}) Reason)
+    → sheet_verdict false es (length ts) b ≡ r → F32Events (sheet_events r w es b)
+    → Passed 10240 w (leds w) (sheet es ts b) (sheet_made w es ts b r) (sheet_line r 10240 (leds w) es ts b)
+sheet_in w es ts b v (Ok u) e f = sheet_passed w es ts b v (taken false es (length ts) b e).whole.few f
+sheet_in w es ts b v (Err r) e f = sheet_refused w es ts b 10240 (leds w) r (inl (refl, v, refl))
+
+module _ (w : World) (es : List SheetEvent) (ts : List Told) (b : Bufs) where
+  made_is : made w (sheet es ts b) ≡ sheet_made w es ts b (sheet_verdict (bad w.bank w.mem) es (length ts) b)
+  unfolding made play_def sheet_made
+  made_is = refl
+
+  line_is : (size : ℕ) (ls : List Led) → item_line size ls (sheet es ts b) ≡ sheet_line (sheet_verdict (not (eqb size 10240)) es (length ts) b) size ls es ts b
+  unfolding item_line
+  line_is size ls = refl
+
+  events_are : (r : Result (Unit {0}) Reason) → (sheet_made w es ts b r).events ≡ sheet_events r w es b
+  unfolding sheet_made
+  events_are r = refl
+
+  -- where both ask the table alike
+  both_ask : (size : ℕ) (ls : List Led) (n : Bool) → bad w.bank w.mem ≡ n → not (eqb size 10240) ≡ n
+      → Passed size w ls (sheet es ts b) (sheet_made w es ts b (sheet_verdict n es (length ts) b)) (sheet_line (sheet_verdict n es (length ts) b) size ls es ts b)
+      → Passed size w ls (sheet es ts b) (made w (sheet es ts b)) (item_line size ls (sheet es ts b))
+  both_ask size ls n eb en p =
+      let m : made w (sheet es ts b) ≡ sheet_made w es ts b (sheet_verdict n es (length ts) b) =
+      made_is ∙ ap (λ (x : Bool). sheet_made w es ts b (sheet_verdict x es (length ts) b)) eb in
+      let l : item_line size ls (sheet es ts b) ≡ sheet_line (sheet_verdict n es (length ts) b) size ls es ts b =
+      line_is size ls ∙ ap (λ (x : Bool). sheet_line (sheet_verdict x es (length ts) b) size ls es ts b) en in
+      subst (λ (y : Made). Passed size w ls (sheet es ts b) y (item_line size ls (sheet es ts b))) (sym m)
+      (subst (λ (y : ItemLine). Passed size w ls (sheet es ts b) (sheet_made w es ts b (sheet_verdict n es (length ts) b)) y) (sym l) p)
+
+  sheet_f32 : Inv w → F32Events (made w (sheet es ts b)).events → F32Events (sheet_events (sheet_verdict false es (length ts) b) w es b)
+  sheet_f32 v f =
+      subst F32Events (events_are (sheet_verdict false es (length ts) b))
+      (subst (λ (m : Made). F32Events m.events)
+      (made_is ∙ ap (λ (x : Bool). sheet_made w es ts b (sheet_verdict x es (length ts) b)) (not_bad w v)) f)
+
+  -- line memory of another length
+  first_one : sheet_verdict true es (length ts) b ≡ Err Memory
+  unfolding sheet_verdict first
+  first_one = refl
+
+  bad_one : length w.mem ≢ 10240 → bad w.bank w.mem ≡ true
+  unfolding bad
+  bad_one d = rw (ne_eqb (length w.mem) 10240 d)
+
+one_f32 : (w : World) (c : Call) → F32Events (made w (one c)).events → F32Events (call_def w c ∷ [])
+unfolding made
+one_f32 w c f = f
+
+item_in : (w : World) (i : Item) → Inv w → F32Events (made w i).events → Passed 10240 w (leds w) i (made w i) (item_line 10240 (leds w) i)
+item_in w (one c) v f = one_passed w c v (one_f32 w c f)
+item_in w (sheet es ts b) v f =
+    both_ask w es ts b 10240 (leds w) false (not_bad w v) refl
+    (sheet_in w es ts b v (sheet_verdict false es (length ts) b) refl (sheet_f32 w es ts b v f))
+
+item_out : (w : World) (ls : List Led) (i : Item) → length w.mem ≢ 10240 → Passed (length w.mem) w ls i (made w i) (item_line (length w.mem) ls i)
+item_out w ls (one c) d = one_refused w ls c d
+item_out w ls (sheet es ts b) d =
+    let size = length w.mem in
+    both_ask w es ts b size ls true (bad_one w es ts b d) (ap not (ne_eqb size 10240 d))
+    (subst (λ (r : Result (Unit {0}) Reason). Passed size w ls (sheet es ts b) (sheet_made w es ts b r) (sheet_line r size ls es ts b))
+    (sym (first_one w es ts b)) (sheet_refused w es ts b size ls Memory (inr (d, refl))))
+
+item_passed : (size : ℕ) (w : World) (ls : List Led) (i : Item) → Between size w ls → F32Events (made w i).events
+    → Passed size w ls i (made w i) (item_line size ls i)
+item_passed size w ls i (inl n) f =
+    subst (λ (k : ℕ). Passed k w ls i (made w i) (item_line k ls i)) (sym n.0)
+    (subst (λ (x : List Led). Passed 10240 w x i (made w i) (item_line 10240 x i)) (sym n.2) (item_in w i n.1 f))
+item_passed size w ls i (inr n) f = subst (λ (k : ℕ). Passed k w ls i (made w i) (item_line k ls i)) n.1 (item_out w ls i n.0)
+
+-- ---- a list of items
+
+record AllPassed (size : ℕ) (w : World) (ls : List Led) (is : List Item) (ms : List Made) (xs : List ItemLine) : Type 0 where
+  numbers : map (λ m. m.number) ms ≡ map (λ x. x.number) xs
+  answers : map (λ m. m.answers) ms ≡ map (λ x. x.answers) xs
+  blanks : map blank (calls_in (all_events ms)) ≡ map blank (all_calls xs)
+  lines : all_lines xs ≡ ledger_from size ls (calls_in (all_events ms))
+  run : Run w (all_events ms) (end_items w is)
+  kept : KeptItems w is
+
+all_passed : (size : ℕ) (is : List Item) (w : World) (ls : List Led) → Between size w ls → F32Events (all_events (run_items w is))
+    → AllPassed size w ls is (run_items w is) (items_from size ls is)
+unfolding run_items end_items items_from ledger_from
+all_passed size [] w ls n f = record { numbers = refl; answers = refl; blanks = refl; lines = refl; run = run_none w; kept = tt }
+all_passed size (i ∷ is) w ls n f =
+    let m = made w i in
+    let x = item_line size ls i in
+    let ms = run_items m.after is in
+    let after = slots_after ls x.lines in
+    let xs = items_from size after is in
+    let g = each_split (λ e. InF32 e.call.act) m.events (all_events ms) f in
+    let p = item_passed size w ls i n g.0 in
+    let r = all_passed size is m.after after p.next g.1 in
+    let cs : calls_in (m.events ++ all_events ms) ≡ calls_in m.events ++ calls_in (all_events ms) = map_append (λ (e : Event). e.call) m.events (all_events ms) in
+    record {
+      numbers = λ j. p.number j ∷ r.numbers j;
+      answers = λ j. p.answers j ∷ r.answers j;
+      blanks = ap (map blank) cs ∙ map_append blank (calls_in m.events) (calls_in (all_events ms))
+          ∙ (λ j. p.blanks j ++ r.blanks j)
+          ∙ sym (map_append blank x.calls (all_calls xs));
+      lines = (λ j. p.lines j ++ r.lines j)
+          ∙ ap (λ (us : List Line). ledger_from size ls (calls_in m.events) ++ ledger_from size (slots_after ls us) (calls_in (all_events ms))) p.lines
+          ∙ sym (ledger_append size (calls_in m.events) (calls_in (all_events ms)) ls)
+          ∙ ap (ledger_from size ls) (sym cs);
+      run = run_join w m.after (end_items m.after is) m.events (all_events ms) p.run r.run;
+      kept = (p.kept, r.kept);
+    }
+
+begins : (seed : ℕ) (mem : List Float) → Between (length mem) (start seed mem) (replicate 8 fresh_led)
+begins seed mem = go (ℕ_discrete (length mem) 10240)
+  where
+    go : Dec (length mem ≡ 10240) → Between (length mem) (start seed mem) (replicate 8 fresh_led)
+    go (yes e) = inl (e, fresh_inv seed mem e, fresh_leds seed mem)
+    go (no d) = inr (d, refl)
+
+pub demand_3_items : Demand3Items
+unfolding Demand3Items items_ledger ledger
+demand_3_items seed l mem items f =
+    let ls = replicate 8 fresh_led in
+    let ms = run_items (start seed mem) items in
+    let es = all_events ms in
+    let cs = calls_in es in
+    let p = all_passed (length mem) items (start seed mem) ls (begins seed mem) f in
+    record {
+      numbers = p.numbers;
+      answers = p.answers;
+      calls = p.blanks;
+      run = p.run.is;
+      ends = p.run.ends;
+      kept = p.kept;
+      account = subst (λ (xs : List Event). Account seed mem cs xs (all_lines (items_from (length mem) ls items))) (sym p.run.is)
+          (subst (λ (us : List Line). Account seed mem cs (run_from (start seed mem) cs) us) (sym p.lines)
+          (account_of seed mem cs (each_call (λ c. InF32 c.act) es f)));
+    }
