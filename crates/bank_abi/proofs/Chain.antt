@@ -1,9 +1,8 @@
--- Every list of exported calls, from the bytes of a fresh bank on, is a run of the bank. Assumes nothing.
+-- Every list of exported calls and sheets, from the bytes of a fresh bank on, is a run of the bank. Assumes nothing.
 use mathlib.Core.Path.{◌≡◌, refl, sym, ◌∙◌, ap, subst}
 use mathlib.Core.Bool.{true}
 use mathlib.Core.List.{List, [], ◌∷◌, map}
 use Prim.Native.Nat.{ℕ}
-use lib.ListN.{length}
 use lib.Ieee.{of_bits}
 use Rattle.ground.specs.Frames.{tab}
 use Rattle.utils.specs.Filter.{svf_new, dc_init}
@@ -15,35 +14,55 @@ use Rattle.string_voice.specs.StringVoice as string_voice
 use Rattle.slots.specs.declared.slots.Bank.{Bank}
 use Rattle.slots.specs.Calls.{Bufs}
 use Rattle.slots.specs.Slots.{no_string, empty_slot, fresh_bank}
-use Rattle.slots.specs.Table.{Call}
-use Rattle.bank.specs.World.{World, start, call_def, run_from}
-use Rattle.claims.specs.Ledger.{ledger}
-use Rattle.claims.specs.Claim.{Account, Asked, calls_of, Demand3}
-use Rattle.claims.proofs.Whole.{demand_3}
+use Rattle.slots.specs.Calls.{InF32}
+use Rattle.bank.specs.World.{World, start}
+use Rattle.ground.specs.Each.{Each}
+use Rattle.player.specs.declared.play.Told.{Told}
+use Rattle.player.specs.Play.{told, Playing}
+use Rattle.claims.specs.Items.{made, run_items, all_events, Demand3Items}
+use Rattle.claims.proofs.Items.{join_f32, call_f32, sheet_f32s, demand_3_items}
 use Rattle.slot_bytes.specs.Words.{words_in}
 use Rattle.slot_bytes.specs.Layout.{decode_bank, encode_bank, parts, decode_slot, slot_in, voice_in, string_in, svf_in, dc_in, modal_in, mode_in, batch_in}
-use Rattle.bank_abi.specs.Crossing.{is_bank, bad_flags, Crossing, world_of, Crossed, numbers_of, decoded, Made, calls_made, ExportedDemand3}
+use Rattle.bank_abi.specs.Crossing.{is_bank, bad_flags, Crossing, world_of}
+use Rattle.bank_abi.specs.Chain.{Exported, called, played, item_of, after_of, GivesItem, MadeBy, items_made, left_by, decoded_item, ExportedDemand3}
 use Rattle.bank_abi.proofs.Zeros.{fresh_zeros}
 
-chain : (rs : List (Call × Crossed)) (x : Crossing) → is_bank x.bytes ≡ true → Made x rs
-    → map numbers_of (run_from (world_of x) (calls_made rs)) ≡ map (λ r. decoded r.1) rs
-unfolding run_from
-chain [] x e g = refl
+-- an item on bytes that are a bank is the bank's, and they stay one
+item_is : (r : Exported) (x : Crossing) → is_bank x.bytes ≡ true → GivesItem x r → left_by (made (world_of x) (item_of r)) ≡ decoded_item r
+unfolding made
+item_is (called c y) x e g = ap (λ (q : ℕ × Counts × World × Bufs). (q.0, told q.0 q.1 ∷ [], q.2, q.3)) (g.agrees e)
+item_is (played es ts b r) x e g = ap (λ (q : ℕ × Playing World). (q.0, q.1.answers, q.1.world, q.1.bufs)) (g.agrees e)
+
+item_stays : (r : Exported) (x : Crossing) → is_bank x.bytes ≡ true → GivesItem x r → is_bank (after_of r).bytes ≡ true
+item_stays (called c y) x e g = g.stays e
+item_stays (played es ts b r) x e g = g.stays e
+
+item_f32 : (r : Exported) (x : Crossing) → is_bank x.bytes ≡ true → GivesItem x r
+    → Each (λ e. InF32 e.call.act) (made (world_of x) (item_of r)).events
+item_f32 (called c y) x e g = call_f32 (world_of x) c g.given
+item_f32 (played es ts b r) x e g =
+    sheet_f32s (world_of x) es ts b (λ n. g.given (sym (ap (λ (q : ℕ × List Told × World × Bufs). q.0) (item_is (played es ts b r) x e g)) ∙ n))
+
+record Chained (rs : List Exported) (w : World) : Type 0 where
+  run : map left_by (run_items w (items_made rs)) ≡ map decoded_item rs
+  f32 : Each (λ e. InF32 e.call.act) (all_events (run_items w (items_made rs)))
+
+chain : (rs : List Exported) (x : Crossing) → is_bank x.bytes ≡ true → MadeBy x rs → Chained rs (world_of x)
+unfolding run_items
+chain [] x e g = record { run = refl; f32 = tt }
 chain (r ∷ rs) x e g =
-    let h : numbers_of (call_def (world_of x) r.0) ≡ decoded r.1 = g.0.agrees e in
-    let w : (call_def (world_of x) r.0).after ≡ world_of r.1.after = ap (λ (q : ℕ × Counts × World × Bufs). q.2) h in
-    (λ i. h i ∷ map numbers_of (run_from (w i) (calls_made rs)))
-    ∙ ap (λ (l : List (ℕ × Counts × World × Bufs)). decoded r.1 ∷ l) (chain rs r.1.after (g.0.stays e) g.1)
-
--- the calls of such a list, each with the fact that it is of f32s
-asked_of : (rs : List (Call × Crossed)) (x : Crossing) → Made x rs → List Asked
-asked_of [] x g = []
-asked_of (r ∷ rs) x g = record { call = r.0; f32 = g.0.given } ∷ asked_of rs r.1.after g.1
-
-calls_asked : (rs : List (Call × Crossed)) (x : Crossing) (g : Made x rs) → calls_of (asked_of rs x g) ≡ calls_made rs
-unfolding asked_of
-calls_asked [] x g = refl
-calls_asked (r ∷ rs) x g = ap (λ (cs : List Call). r.0 ∷ cs) (calls_asked rs r.1.after g.1)
+    let m = made (world_of x) (item_of r) in
+    let h = item_is r x e g.0 in
+    let w : m.after ≡ world_of (after_of r) = ap (λ (q : ℕ × List Told × World × Bufs). q.2) h ∙ after_is r in
+    let c : Chained rs m.after = subst (Chained rs) (sym w) (chain rs (after_of r) (item_stays r x e g.0) g.1) in
+    record {
+      run = λ i. h i ∷ c.run i;
+      f32 = join_f32 m.events (all_events (run_items m.after (items_made rs))) (item_f32 r x e g.0) c.f32;
+    }
+  where
+    after_is : (r : Exported) → (decoded_item r).2 ≡ world_of (after_of r)
+    after_is (called c y) = refl
+    after_is (played es ts b r) = refl
 
 fresh_is : is_bank (encode_bank fresh_bank) ≡ true
 unfolding is_bank bad_flags parts
@@ -55,11 +74,9 @@ unfolding decode_bank parts decode_slot slot_in voice_in string_in svf_in dc_in 
 fresh_back = ap decode_bank fresh_zeros ∙ refl
 
 pub exported_demand_3 : ExportedDemand3
-unfolding ExportedDemand3 Demand3
+unfolding ExportedDemand3 Demand3Items
 exported_demand_3 seed h mem rs g =
     let x : Crossing = record { bytes = encode_bank fresh_bank; word = seed; mem = mem } in
-    record {
-      run = ap (λ (b : Bank). map numbers_of (run_from (record { bank = b; word = seed; mem = mem }) (calls_made rs))) (sym fresh_back) ∙ chain rs x fresh_is g;
-      account = subst (λ (cs : List Call). Account seed mem cs (run_from (start seed mem) cs) (ledger (length mem) cs)) (calls_asked rs x g)
-          (demand_3 seed h mem (asked_of rs x g));
-    }
+    let c : Chained rs (start seed mem) =
+    subst (λ (b : Bank). Chained rs (record { bank = b; word = seed; mem = mem })) fresh_back (chain rs x fresh_is g) in
+    record { run = c.run; account = demand_3_items seed h mem (items_made rs) c.f32 }

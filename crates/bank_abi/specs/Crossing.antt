@@ -1,5 +1,5 @@
 -- The calls on a bank that crosses as bytes: eight slots one after the other. Assumes nothing.
-use Rattle.std.specs.Prelude.{Bool, true, false, not, ◌&&◌, ◌||◌, cond, List, [], ◌∷◌, map, ◌≡◌, ℕ, ◌<◌, ◌^◌, eqb, ltb, length, get_or, Float, Result, Ok, Err}
+use Rattle.std.specs.Prelude.{Bool, true, false, not, ◌&&◌, ◌||◌, cond, List, [], ◌∷◌, ◌≡◌, ℕ, eqb, ltb, length, get_or, Float, Result, Ok, Err}
 use Rattle.noise.specs.declared.excitation.Counts.{Counts}
 use Rattle.slots.specs.declared.answers.Reason.{Reason}
 use Rattle.slots.specs.declared.answers.Reason.TheVariants.{Memory}
@@ -7,9 +7,7 @@ use Rattle.slots.specs.Answers.{no_counts, reason_number, number_of, counts_of}
 use Rattle.slots.specs.Slots.{fresh_bank, slot_at}
 use Rattle.slots.specs.Calls.{Bufs, InF32, lent}
 use Rattle.slots.specs.Table.{Call, verdict, bad}
-use Rattle.bank.specs.World.{World, Event, acted, call_def, start, run_from}
-use Rattle.claims.specs.Ledger.{ledger}
-use Rattle.claims.specs.Claim.{Account}
+use Rattle.bank.specs.World.{World, Event, acted, call_def}
 use Rattle.slot_bytes.specs.Layout.{SlotF32, parts, decode_bank, encode_bank, with_bytes, encode_slot}
 
 -- making a fresh bank: refused with 1 where the length is another
@@ -94,23 +92,3 @@ pub record Gives (x : Crossing) (c : Call) (y : Crossed) : Type 0 where
   pub stays : is_bank x.bytes ≡ true → is_bank y.after.bytes ≡ true
   -- what is asked is f32s
   pub given : InF32 c.act
-
--- ---- a list of exported calls
-
--- as a host makes them: each call with what it left, each on what the last one left
-abbrev pub Made : Crossing → List (Call × Crossed) → Type 0
-Made x [] = Unit {0}
-Made x (r ∷ rs) = Gives x r.0 r.1 × Made r.1.after rs
-
-abbrev pub calls_made : List (Call × Crossed) → List Call
-calls_made rs = map (λ r. r.0) rs
-
--- from the bytes of a fresh bank such a list is a run of the bank, and the account holds of that run
-pub record Session (seed : ℕ) (mem : List Float) (rs : List (Call × Crossed)) : Type 0 where
-  pub run : map numbers_of (run_from (start seed mem) (calls_made rs)) ≡ map (λ r. decoded r.1) rs
-  pub account : Account seed mem (calls_made rs) (run_from (start seed mem) (calls_made rs)) (ledger (length mem) (calls_made rs))
-
--- demand 3 of the exported calls: of every seed, line memory and list that a host can make
-unfoldable pub ExportedDemand3 : Type 0
-ExportedDemand3 = (seed : ℕ) → seed < 2 ^ 32 → (mem : List Float) (rs : List (Call × Crossed))
-    → Made (record { bytes = encode_bank fresh_bank; word = seed; mem = mem }) rs → Session seed mem rs

@@ -3,7 +3,7 @@ use mathlib.Core.Path.{◌≡◌, refl, sym, ap, ◌∙◌, subst}
 use mathlib.Core.Logic.{◌≢◌, ◌⊎◌, inl, inr}
 use mathlib.Core.Bool.{Bool, true, false, not}
 use mathlib.Core.List.{List, [], ◌∷◌, ◌++◌, map}
-use Prim.Native.Nat.{ℕ, zero, suc, ◌+◌, ◌-◌, ◌≤◌, ◌<◌, min}
+use Prim.Native.Nat.{ℕ, zero, suc, ◌-◌, ◌≤◌, min}
 use native.Mathlib.Decide.{ℕ_discrete}
 use native.Mathlib.Omega.{arith}
 use lib.ListN.{length, get_or, set, take, drop, replicate, length-replicate}
@@ -21,19 +21,19 @@ use Rattle.noise.specs.declared.excitation.Knobs.{Knobs}
 use Rattle.noise.specs.declared.excitation.Counts.{Counts}
 use Rattle.slots.specs.declared.answers.Reason.{Reason}
 use Rattle.slots.specs.declared.answers.Reason.TheVariants.{Memory}
-use Rattle.slots.specs.Answers.{reason_number, number_of, no_counts}
+use Rattle.slots.specs.Answers.{number_of, no_counts}
 use Rattle.slots.specs.Slots.{slot_at}
-use Rattle.slots.specs.Calls.{Bufs, Act, opening, reset, render, InF32, lent}
+use Rattle.slots.specs.Calls.{Bufs, Act, opening, reset, render, InF32}
 use Rattle.slots.specs.Table.{Call, first, alike, checks, verdict, bad}
 use Rattle.bank.specs.World.{World, start, Event, call_by, call_def, run_from, end_from}
 use Rattle.player.specs.declared.sheet.Event.{Event as SheetEvent}
 use Rattle.player.specs.declared.play.Told.{Told}
-use Rattle.player.specs.Sheet.{sheet_verdict, until, Cue, cue_of, cues_from, cues}
-use Rattle.player.specs.Play.{told, told_of, span, put_span, cue_call, Playing, refused_answers, turn, turns, play_by, play_def, bank_move}
+use Rattle.player.specs.Sheet.{AreF32, sheet_verdict, until, Cue, cue_of, cues_from, cues}
+use Rattle.player.specs.Play.{told, told_of, span, put_span, cue_call, Playing, turn, turns, play_by, play_def, bank_move}
 use Rattle.claims.specs.Ledger.{Led, fresh_led, Line, act_entry, line_by, line_of, ledger_from, ledger}
 use Rattle.claims.specs.Claim.{Account}
 use Rattle.claims.specs.Items.{Item, one, sheet, play_events, sheet_events, Made, made, run_items, end_items, all_events, calls_in, ItemLine, told_lines, sheet_line}
-use Rattle.claims.specs.Items.{item_line, slots_after, items_from, items_ledger, all_lines, all_calls, blank_act, blank, KeptItem, KeptItems, ItemAccount, Demand3Items}
+use Rattle.claims.specs.Items.{item_line, slots_after, items_from, items_ledger, all_lines, all_calls, blank_act, blank, KeptItem, KeptItems, Demand3Items}
 use Rattle.claims.proofs.Acts.{SameSizes, same_sizes}
 use Rattle.claims.proofs.OneCall.{Inv, leds, not_bad, Step, step}
 use Rattle.player.proofs.Accepted.{taken}
@@ -515,3 +515,35 @@ demand_3_items seed l mem items f =
           (subst (λ (us : List Line). Account seed mem cs (run_from (start seed mem) cs) us) (sym p.lines)
           (account_of seed mem cs (each_call (λ c. InF32 c.act) es f)));
     }
+
+-- ---- what a host knows of what it asks
+
+each_join : {A : Type 0} (P : A → Type 0) (xs ys : List A) → Each P xs → Each P ys → Each P (xs ++ ys)
+each_join P [] ys f g = g
+each_join P (x ∷ xs) ys f g = (f.0, each_join P xs ys f.1 g)
+
+pub join_f32 : (xs ys : List Event) → Each (λ e. InF32 e.call.act) xs → Each (λ e. InF32 e.call.act) ys → Each (λ e. InF32 e.call.act) (xs ++ ys)
+join_f32 xs ys f g = each_join (λ e. InF32 e.call.act) xs ys f g
+
+render_f32 : (es : List SheetEvent) (n i : ℕ) (w : World) (b : Bufs) → Each AreF32 es → F32Events (play_events w b (cues_from n i es))
+unfolding cues_from play_events
+render_f32 [] n i w b f = tt
+render_f32 (x ∷ xs) n i w b f =
+    let q = cue_of i x (until n x.slot xs) in
+    let e = call_def w (cue_call q b) in
+    (subst (λ (d : Call). InF32 d.act) (sym (call_is w (cue_call q b))) f.0, render_f32 xs n (suc i) e.after (put_span q e.bufs b) f.1)
+
+-- of a call, and of a sheet that is played
+pub call_f32 : (w : World) (c : Call) → InF32 c.act → Each (λ e. InF32 e.call.act) (made w (one c)).events
+unfolding made
+call_f32 w c f = (subst (λ (d : Call). InF32 d.act) (sym (call_is w c)) f, tt)
+
+pub sheet_f32s : (w : World) (es : List SheetEvent) (ts : List Told) (b : Bufs) → ((made w (sheet es ts b)).number ≡ 0 → Each AreF32 es)
+    → Each (λ e. InF32 e.call.act) (made w (sheet es ts b)).events
+sheet_f32s w es ts b f =
+    subst (λ (m : Made). F32Events m.events) (sym (made_is w es ts b))
+    (by (sheet_verdict (bad w.bank w.mem) es (length ts) b) (subst (λ (m : Made). m.number ≡ 0 → Each AreF32 es) (made_is w es ts b) f))
+  where
+    by : (r : Result (Unit {0}) Reason) → ((sheet_made w es ts b r).number ≡ 0 → Each AreF32 es) → F32Events (sheet_made w es ts b r).events
+    by (Ok u) g = unfold sheet_made sheet_events play_by in render_f32 es (length b.temp) 0 w b (g refl)
+    by (Err r) g = unfold sheet_made sheet_events in tt

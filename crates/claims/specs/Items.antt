@@ -1,16 +1,16 @@
 -- What a host calls: one call, or a whole sheet. The account of every list of them, from that of the calls that they make. Assumes nothing.
-use Rattle.std.specs.Prelude.{◌≡◌, ◌≢◌, not, cond, List, [], ◌∷◌, ◌++◌, map, ℕ, ◌-◌, ◌^◌, ◌<◌, eqb, length, replicate, Float, Result, Ok, Err}
+use Rattle.std.specs.Prelude.{◌≡◌, ◌≢◌, not, List, [], ◌∷◌, ◌++◌, map, ℕ, ◌-◌, ◌^◌, ◌<◌, eqb, length, replicate, Float, Result, Ok, Err}
 use Rattle.ground.specs.F32.{c0}
 use Rattle.ground.specs.Each.{Each}
 use Rattle.slots.specs.declared.answers.Reason.{Reason}
 use Rattle.slots.specs.Answers.{reason_number, number_of, no_counts}
-use Rattle.slots.specs.Calls.{Bufs, Act, opening, reset, render, InF32, lent}
+use Rattle.slots.specs.Calls.{Bufs, Act, opening, reset, render, InF32}
 use Rattle.slots.specs.Table.{Call, bad}
 use Rattle.bank.specs.World.{World, start, Event, call_def, run_from, end_from}
 use Rattle.player.specs.declared.sheet.Event.{Event as SheetEvent}
 use Rattle.player.specs.declared.play.Told.{Told}
 use Rattle.player.specs.Sheet.{sheet_verdict, Cue, cues}
-use Rattle.player.specs.Play.{told, told_of, put_span, cue_call, Playing, refused_answers, play_def, bank_move}
+use Rattle.player.specs.Play.{told, told_of, put_span, cue_call, refused_answers, play_def, bank_move}
 use Rattle.claims.specs.Ledger.{Led, fresh_led, Line, line_of, ledger_from}
 use Rattle.claims.specs.Claim.{Account}
 
