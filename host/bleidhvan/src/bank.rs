@@ -62,6 +62,7 @@ impl Knobs {
 
 /// How many words a call drew from the generator, by what.
 #[derive(Debug, Clone, Copy, Default, PartialEq, Eq)]
+#[repr(C)]
 pub struct Counts {
     /// Words of the noise burst of a struck string.
     pub burst: usize,
@@ -166,21 +167,23 @@ impl Bank {
 
 /// What a call asked for, to name what was at fault.
 #[derive(Default)]
-struct Asked {
-    slot: usize,
-    kind: u32,
-    rate: f32,
-    lengths: [usize; 4],
-    knobs: Knobs,
+pub(crate) struct Asked {
+    pub(crate) slot: usize,
+    pub(crate) kind: u32,
+    pub(crate) rate: f32,
+    pub(crate) lengths: [usize; 4],
+    pub(crate) knobs: Knobs,
 }
 
 /// The refusal of that number, none where it is 0.
-fn refused(number: u32, asked: impl FnOnce() -> Asked) -> Result<(), Refusal> {
-    if number == 0 {
-        return Ok(());
-    }
-    let Asked { slot, kind, rate, lengths, knobs } = asked();
-    Err(match number {
+pub(crate) fn refused(number: u32, asked: impl FnOnce() -> Asked) -> Result<(), Refusal> {
+    if number == 0 { Ok(()) } else { Err(refusal(number, asked())) }
+}
+
+/// The refusal of that number.
+pub(crate) fn refusal(number: u32, asked: Asked) -> Refusal {
+    let Asked { slot, kind, rate, lengths, knobs } = asked;
+    match number {
         2 => Refusal::NoSlot { slot },
         3 => Refusal::Kind { kind },
         4 => Refusal::SampleRate { rate },
@@ -193,5 +196,5 @@ fn refused(number: u32, asked: impl FnOnce() -> Asked) -> Result<(), Refusal> {
             Refusal::OutOfRange { knob, value: knobs.value(knob) }
         }
         _ => Refusal::Memory,
-    })
+    }
 }

@@ -15,6 +15,8 @@
 //! assert!(out.iter().any(|sample| *sample != 0.0));
 //! # Ok::<(), bleidhvan::Refusal>(())
 //! ```
+//!
+//! [`Bank::play`] makes a block of several slots at once, by a sheet of events that begin on frames of their own.
 
 #![deny(unsafe_code)]
 #![warn(missing_docs)]
@@ -24,11 +26,13 @@ pub mod layout;
 pub mod raw;
 mod refusal;
 mod saved;
+mod sheet;
 mod subnormal;
 
 pub use bank::{Bank, Buffers, Counts, Kind, Knobs};
 pub use refusal::{Knob, Refusal};
 pub use saved::LoadError;
+pub use sheet::{Answers, Event};
 pub use subnormal::slow_subnormals;
 
 /// The README, whose example is tested as it stands.

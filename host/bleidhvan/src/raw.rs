@@ -4,11 +4,12 @@
 //! by itself.
 //!
 //! The proofs take floats as a process has them at its start: rounded to nearest, with subnormal numbers. Audio hosts often set the
-//! processor otherwise. So [`open`], [`reset`] and [`render`] set aside the caller's MXCSR, work in that of a process at its start,
-//! and restore the whole register, with the flags of its exceptions: they give the same bits in every setting, and leave no trace
-//! in it. [`fresh`] has no floats. [`exported`] has the functions with no such guard.
+//! processor otherwise. So [`open`], [`reset`], [`render`] and [`play`] set aside the caller's MXCSR, work in that of a process at
+//! its start, and restore the whole register, with the flags of its exceptions: they give the same bits in every setting, and leave
+//! no trace in it. [`fresh`] has no floats. [`exported`] has the functions with no such guard.
 
 use crate::bank::{Buffers, Counts, Knobs};
+use std::mem::{offset_of, size_of};
 
 /// The numbers of line memory that a bank accepts.
 pub const LINES: usize = 10240;
@@ -16,13 +17,55 @@ pub const LINES: usize = 10240;
 /// The bytes of a slot of a bank.
 pub const SLOT_BYTES: usize = 393;
 
-/// The answer of a render: the table's number, 0 where it was accepted, and the words that it drew.
-#[derive(Debug, Clone, Copy, PartialEq, Eq)]
+/// The most events of a sheet, and the answers that are lent to [`play`].
+pub const EVENTS: usize = 64;
+
+/// The answer of a render: the table's number, 0 where it was accepted, and the words that it drew. It is `bleidhvan_answer` of C.
+#[derive(Debug, Clone, Copy, Default, PartialEq, Eq)]
+#[repr(C)]
 pub struct Answer {
     /// 0, or why the call was refused.
     pub number: u32,
     /// Zeros where the call was refused.
     pub counts: Counts,
+}
+
+const _: () = assert!(size_of::<Answer>() == 32 && offset_of!(Answer, counts) == 8);
+const _: () = assert!(offset_of!(Counts, dust) == 8 && offset_of!(Counts, dispersion) == 16);
+
+/// An event of a sheet as it crosses: `bleidhvan_event` of C.
+#[derive(Debug, Clone, Copy, Default, PartialEq)]
+#[repr(C)]
+pub struct Event {
+    /// The frame of the block at which the event's render begins.
+    pub frame: u32,
+    /// The slot that it renders.
+    pub slot: u32,
+    /// 1 where the voice is struck, and else 0; any other number is 1 of the table.
+    pub trigger: u32,
+    /// 1 where the voice is excited all along, and else 0; any other number is 1 of the table.
+    pub sustain: u32,
+    /// The pitch over the sample rate.
+    pub f0: f32,
+    /// How hard a strike is.
+    pub accent: f32,
+    /// The non-linearity of the string, the stiffness of the modes.
+    pub structure: f32,
+    /// The brightness of the excitation.
+    pub brightness: f32,
+    /// How long the sound rings.
+    pub damping: f32,
+}
+
+const _: () = assert!(size_of::<Event>() == 36 && offset_of!(Event, damping) == 32);
+
+impl Event {
+    /// The event of a frame and a slot with a render's knobs.
+    pub fn new(frame: u32, slot: u32, knobs: &Knobs) -> Self {
+        let Knobs { sustain, trigger, accent, f0, structure, brightness, damping } = *knobs;
+        let [trigger, sustain] = [trigger, sustain].map(u32::from);
+        Event { frame, slot, trigger, sustain, f0, accent, structure, brightness, damping }
+    }
 }
 
 /// The functions of the library themselves, with nothing around them.
@@ -31,6 +74,8 @@ pub struct Answer {
 /// floating-point environment of a process at its start.
 #[allow(unsafe_code)]
 pub mod exported {
+    use super::{Answer, Event};
+
     unsafe extern "C" {
         /// The length of a bank in bytes.
         pub safe fn bleidhvan_bank_bytes() -> usize;
@@ -86,15 +131,38 @@ pub mod exported {
             dispersion: &mut usize,
             slow_subnormals: bool,
         ) -> u32;
+
+        /// A block of several slots, by the events of a sheet.
+        pub fn bleidhvan_play(
+            bank: *mut u8,
+            bank_len: usize,
+            lines: *mut f32,
+            lines_len: usize,
+            word: &mut u32,
+            sheet: *const Event,
+            sheet_len: usize,
+            answers: *mut Answer,
+            answers_len: usize,
+            temp: *mut f32,
+            temp_len: usize,
+            temp_2: *mut f32,
+            temp_2_len: usize,
+            out: *mut f32,
+            out_len: usize,
+            aux: *mut f32,
+            aux_len: usize,
+            slow_subnormals: bool,
+        ) -> u32;
     }
 }
 
 #[allow(unsafe_code)]
 mod guarded {
     use super::exported::{
-        bleidhvan_bank_bytes, bleidhvan_fresh, bleidhvan_open, bleidhvan_render, bleidhvan_reset,
+        bleidhvan_bank_bytes, bleidhvan_fresh, bleidhvan_open, bleidhvan_play, bleidhvan_render,
+        bleidhvan_reset,
     };
-    use super::{Answer, Buffers, Counts, Knobs};
+    use super::{Answer, Buffers, Counts, Event, Knobs};
     use std::arch::asm;
 
     /// MXCSR at the start of a process: round to nearest, subnormal numbers as they are, no exception unmasked, none raised.
@@ -226,7 +294,50 @@ mod guarded {
         });
         Answer { number, counts: Counts { burst, dust, dispersion } }
     }
+
+    /// Plays a sheet over a block, and gives the sheet's number: 0 where it is played, and else every answer has it, and nothing else
+    /// has changed.
+    ///
+    /// The answers are [`EVENTS`], an event's own at its place and zeros behind the last; any other length is 1 of the table, and
+    /// leaves them as they are.
+    ///
+    /// [`EVENTS`]: super::EVENTS
+    #[inline(never)]
+    pub fn play(
+        bank: &mut [u8],
+        lines: &mut [f32],
+        word: &mut u32,
+        sheet: &[Event],
+        answers: &mut [Answer],
+        buffers: Buffers<'_>,
+        slow_subnormals: bool,
+    ) -> u32 {
+        let [temp, temp_2, out, aux] = buffers;
+        // Each slice and the number is lent whole, and to nobody else.
+        in_default_environment(|| unsafe {
+            bleidhvan_play(
+                bank.as_mut_ptr(),
+                bank.len(),
+                lines.as_mut_ptr(),
+                lines.len(),
+                word,
+                sheet.as_ptr(),
+                sheet.len(),
+                answers.as_mut_ptr(),
+                answers.len(),
+                temp.as_mut_ptr(),
+                temp.len(),
+                temp_2.as_mut_ptr(),
+                temp_2.len(),
+                out.as_mut_ptr(),
+                out.len(),
+                aux.as_mut_ptr(),
+                aux.len(),
+                slow_subnormals,
+            )
+        })
+    }
 }
 
 pub(crate) use guarded::in_default_environment;
-pub use guarded::{bank_bytes, fresh, open, render, reset};
+pub use guarded::{bank_bytes, fresh, open, play, render, reset};

@@ -98,6 +98,29 @@ pub enum Refusal {
         /// Its value.
         value: f32,
     },
+    /// 14: the sheet has too many events.
+    TooMany {
+        /// The events of the sheet.
+        events: usize,
+    },
+    /// 15: the frames of the sheet go down.
+    OutOfOrder {
+        /// The place in the sheet, from 0, of the first event that is before the one before it.
+        event: usize,
+        /// Its frame.
+        frame: usize,
+        /// The frame of the event before it.
+        before: usize,
+    },
+    /// 16: an event is at or past the end of the block.
+    PastEnd {
+        /// The place in the sheet, from 0, of the first such event.
+        event: usize,
+        /// Its frame.
+        frame: usize,
+        /// The frames of the block.
+        frames: usize,
+    },
 }
 
 impl Refusal {
@@ -113,6 +136,9 @@ impl Refusal {
             Refusal::Lengths { .. } => 7,
             Refusal::TooLong { .. } => 8,
             Refusal::OutOfRange { knob, .. } => 9 + *knob as u32,
+            Refusal::TooMany { .. } => 14,
+            Refusal::OutOfOrder { .. } => 15,
+            Refusal::PastEnd { .. } => 16,
         }
     }
 }
@@ -144,6 +170,23 @@ impl fmt::Display for Refusal {
             Refusal::OutOfRange { knob, value } => {
                 write!(f, "{} is {value}, and must be {}", knob.name(), knob.range_text())
             }
+            Refusal::TooMany { events } => write!(
+                f,
+                "the sheet has {events} events: give a block at most 64, and the next block the others"
+            ),
+            Refusal::OutOfOrder { event, frame, before } => write!(
+                f,
+                "event {event}, counted from 0, is at frame {frame}, and the one before it at {before}: put the events in the order of their frames"
+            ),
+            Refusal::PastEnd { event, frame, frames: 0 } => write!(
+                f,
+                "event {event}, counted from 0, is at frame {frame} of a block of no frames: such a block takes no event"
+            ),
+            Refusal::PastEnd { event, frame, frames } => write!(
+                f,
+                "event {event}, counted from 0, is at frame {frame} of a block of {frames}: give it a frame from 0 to {}, or put it in a later block",
+                frames - 1
+            ),
         }
     }
 }
