@@ -5,7 +5,7 @@
 #include <stdlib.h>
 #include <string.h>
 
-enum { FRAMES = 96, BLOCKS = 40, THREADS = 4, CALLS = 4096, STACK = 1 << 16, MOST = 6144 };
+enum { FRAMES = 96, BLOCKS = 40, THREADS = 4, CALLS = 4096, EVENTS = 6, KINDS = 5, STACK = 1 << 16, MOST = 6144 };
 
 static const size_t SIZE = BLEIDHVAN_BANK_BYTES, COUNT = BLEIDHVAN_LINES;
 
@@ -22,21 +22,24 @@ typedef struct {
     float *lines, *temp, *temp_2, *out, *aux;
     uint32_t *word;
     size_t *burst, *dust, *dispersion;
+    bleidhvan_event *sheet;
+    bleidhvan_answer *answers;
 } World;
 
 /* A world whose every part begins so many bytes behind an address that suits any number. */
 static World lend(size_t odd) {
     size_t floats = FRAMES * sizeof(float), number = sizeof(size_t);
-    size_t sizes[10] = {SIZE, COUNT * sizeof(float), floats, floats, floats, floats, sizeof(uint32_t), number, number, number};
-    uint8_t *part[10];
-    for (int k = 0; k < 10; k++) {
+    size_t events = EVENTS * sizeof(bleidhvan_event), answers = BLEIDHVAN_EVENTS * sizeof(bleidhvan_answer);
+    size_t sizes[12] = {SIZE, COUNT * sizeof(float), floats, floats, floats, floats, sizeof(uint32_t), number, number, number, events, answers};
+    uint8_t *part[12];
+    for (int k = 0; k < 12; k++) {
         part[k] = calloc(1, sizes[k] + 16);
         hold(part[k] != NULL, "there is no memory");
         part[k] += odd;
     }
-    void *at[10];
+    void *at[12];
     memcpy(at, part, sizeof at);
-    return (World){at[0], at[1], at[2], at[3], at[4], at[5], at[6], at[7], at[8], at[9]};
+    return (World){at[0], at[1], at[2], at[3], at[4], at[5], at[6], at[7], at[8], at[9], at[10], at[11]};
 }
 
 static uint32_t open(const World *w, size_t slot, uint32_t kind) { return bleidhvan_open(w->bank, SIZE, w->lines, COUNT, slot, kind, 48000); }
@@ -51,8 +54,37 @@ static uint32_t render(const World *w, size_t slot, size_t k, size_t frames) {
                             frames, w->aux, frames, w->burst, w->dust, w->dispersion, k % 5 == 0);
 }
 
+/* A sheet of the slots 3 to 5, the last of which is never opened, whose settings are drawn from k; of no events where there are no frames. */
+static uint32_t sheet(const World *w, size_t k, size_t frames) {
+    bleidhvan_event events[EVENTS];
+    for (uint32_t e = 0; e < EVENTS; e++) {
+        bool high = (k + e) % 4 < 2, bridge = (k + e) % 8 < 4;
+        events[e] = (bleidhvan_event){.frame = (uint32_t)(e * frames / EVENTS),
+                                      .slot = 3 + e % 3,
+                                      .trigger = (k + e) % 16 < 2,
+                                      .sustain = (k + e) % 16 > 11,
+                                      .f0 = high ? 0.3f : 0.0009f,
+                                      .accent = 0.8f,
+                                      .structure = bridge ? 0.1f : 0.9f,
+                                      .brightness = 0.9f,
+                                      .damping = 0.3f};
+    }
+    memcpy(w->sheet, events, sizeof events);
+    return bleidhvan_play(w->bank, SIZE, w->lines, COUNT, w->word, w->sheet, frames > 0 ? EVENTS : 0, w->answers, BLEIDHVAN_EVENTS, w->temp, frames, w->temp_2, frames, w->out,
+                          frames, w->aux, frames, k % 5 == 0);
+}
+
 static void mix(uint64_t *sum, const void *from, size_t size) {
     for (const uint8_t *byte = from; size > 0; byte++, size--) *sum = (*sum ^ *byte) * 0x100000001b3;
+}
+
+/* The answers of a sheet, but for the four bytes of each that say nothing. */
+static void mix_answers(uint64_t *sum, const World *w) {
+    for (size_t k = 0; k < BLEIDHVAN_EVENTS; k++) {
+        const uint8_t *answer = (const uint8_t *)w->answers + k * sizeof(bleidhvan_answer);
+        mix(sum, answer, sizeof(uint32_t));
+        mix(sum, answer + offsetof(bleidhvan_answer, burst), 3 * sizeof(size_t));
+    }
 }
 
 /* A call's answer, and all that it left. */
@@ -68,6 +100,7 @@ static void mix_left(uint64_t *sum, uint32_t answer, const World *w) {
     mix(sum, w->burst, sizeof(size_t));
     mix(sum, w->dust, sizeof(size_t));
     mix(sum, w->dispersion, sizeof(size_t));
+    mix_answers(sum, w);
 }
 
 /* Both voices, from a fresh bank: a checksum of all answers and of all that each call left. */
@@ -81,6 +114,7 @@ static uint64_t play(const World *w) {
     for (size_t k = 0; k < BLOCKS; k++) {
         mix_left(&sum, render(w, 3, k, k % 3 == 0 ? FRAMES : 1 + k), w);
         mix_left(&sum, render(w, 4, k, k % 3 == 0 ? FRAMES : 1 + k), w);
+        mix_left(&sum, sheet(w, k, k % 3 == 0 ? FRAMES : 1 + k), w);
     }
     mix_left(&sum, reset(w, 3), w);
     mix_left(&sum, render(w, 5, 0, FRAMES), w);
@@ -93,6 +127,8 @@ static void empty_slices(void) {
     hold(play(&w) == play(&other), "two worlds differ");
     World null = w;
     null.temp = null.temp_2 = null.out = null.aux = NULL;
+    hold(bleidhvan_play(w.bank, SIZE, w.lines, COUNT, w.word, NULL, 0, w.answers, BLEIDHVAN_EVENTS, NULL, 0, NULL, 0, NULL, 0, NULL, 0, false) == 0, "a sheet of nothing is refused");
+    hold(sheet(&other, 0, 0) == 0, "a sheet of no events is refused");
     for (size_t k = 0; k < 16; k++)
         for (size_t slot = 3; slot < 5; slot++) {
             hold(render(&null, slot, k, 0) == 0 && render(&other, slot, k, 0) == 0, "a block of no frames is refused");
@@ -111,6 +147,7 @@ static void empty_slices(void) {
          "a render of nothing");
     hold(bleidhvan_render(w.bank, SIZE, w.lines, COUNT, w.word, 3, true, true, 0, 0.1f, 0, 0, 0, NULL, 0, w.temp_2, FRAMES, w.out, FRAMES, w.aux, FRAMES, w.burst, w.dust,
                           w.dispersion, false) == 7, "one empty buffer");
+    hold(bleidhvan_play(NULL, 0, NULL, 0, w.word, NULL, 0, NULL, 0, NULL, 0, NULL, 0, NULL, 0, NULL, 0, false) == 1, "a sheet in no bank");
     sum = 0;
     mix_left(&sum, 0, &w);
     hold(sum == others, "a refused call changes something");
@@ -143,14 +180,15 @@ static void threads(uint64_t plain) {
 
 static World played;
 static uint8_t *stack;
-static size_t most[4];
+static size_t most[KINDS];
 
-/* One of many calls of four kinds. */
+/* One of many calls of each kind. */
 static void call(int kind, size_t k) {
     if (kind == 0) open(&played, k % 8, 1 + k % 2);
     if (kind == 1) reset(&played, k % 4 * 2);
     if (kind == 2) render(&played, 2, k, FRAMES);
     if (kind == 3) render(&played, 3, k % 1024 > 1000 ? k : k % 1024 == 0 ? 0 : 2 + k % 10, FRAMES);
+    if (kind == 4) sheet(&played, k, FRAMES);
 }
 
 /* Fills the stack below itself with a pattern, but for what it takes. */
@@ -169,7 +207,7 @@ __attribute__((noinline)) static size_t depth(int kind, size_t k) {
 }
 
 static void *measure(void *none) {
-    for (int kind = 0; kind < 4; kind++)
+    for (int kind = 0; kind < KINDS; kind++)
         for (size_t k = 0; k < CALLS; k++) {
             size_t now = depth(kind, k);
             if (now > most[kind]) most[kind] = now;
@@ -179,7 +217,7 @@ static void *measure(void *none) {
 
 /* The stack is measured in a thread whose stack is known. What was called before has bound what the dynamic linker binds at a first call. */
 static void stacks(bool say) {
-    static const char *names[4] = {"an opening", "a reset", "a string's render", "a modal voice's render"};
+    static const char *names[KINDS] = {"an opening", "a reset", "a string's render", "a modal voice's render", "a sheet"};
     pthread_attr_t attributes;
     pthread_t thread;
     played = lend(0);
@@ -187,7 +225,7 @@ static void stacks(bool say) {
     stack = aligned_alloc(4096, STACK);
     hold(stack != NULL && pthread_attr_init(&attributes) == 0 && pthread_attr_setstack(&attributes, stack, STACK) == 0, "there is no stack");
     hold(pthread_create(&thread, &attributes, measure, NULL) == 0 && pthread_join(thread, NULL) == 0, "there is no thread");
-    for (int kind = 0; kind < 4; kind++) {
+    for (int kind = 0; kind < KINDS; kind++) {
         if (say) printf("%s: %zu bytes of stack\n", names[kind], most[kind]);
         hold(most[kind] > 256 && most[kind] < MOST, "the stack that a call takes");
     }

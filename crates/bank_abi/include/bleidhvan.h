@@ -26,29 +26,49 @@
 /* The most frames of a block. */
 #define BLEIDHVAN_FRAMES 4096
 
+/* The most events of a sheet, and the answers that its call is lent. */
+#define BLEIDHVAN_EVENTS 64
+
 /* What a slot is opened with; 0 is the kind of an empty slot. */
 #define BLEIDHVAN_STRING 1
 #define BLEIDHVAN_MODAL 2
 
 /* The answers. A call makes its checks in the order of the numbers and gives the first that applies. The ends of a range are within it, and a NaN is in no range.
-   A refused call changes nothing: bank, line memory, word and buffers are as they were. A refused render writes 0 to its three counts. */
+   A refused call changes nothing: bank, line memory, word and buffers are as they were. A refused render writes 0 to its three counts, and a sheet that is refused whole
+   its number and three zeros to each answer. */
 enum {
     BLEIDHVAN_ACCEPTED = 0,
     BLEIDHVAN_MEMORY = 1,      /* every call: bank_len is not 3144; every call but fresh: lines_len is not 10240, or of any slot a kind above 2, a write place at or
-                                  above 1024 (string) or 256 (stretch), left above 1048576, or a flag above 1 */
+                                  above 1024 (string) or 256 (stretch), left above 1048576, or a flag above 1; play also: a trigger or sustain of any event above 1, or
+                                  answers_len is not 64 */
     BLEIDHVAN_NO_SLOT = 2,     /* open, reset, render: slot above 7 */
     BLEIDHVAN_KIND = 3,        /* open: kind neither 1 nor 2 */
     BLEIDHVAN_SAMPLE_RATE = 4, /* open: sample_rate_hz not within 8000 to 192000 */
     BLEIDHVAN_EMPTY = 5,       /* reset, render: the slot is empty */
     BLEIDHVAN_NO_RESET = 6,    /* reset: the slot has a modal voice, which has no reset */
-    BLEIDHVAN_LENGTHS = 7,     /* render: temp, temp_2, out and aux differ in length */
-    BLEIDHVAN_TOO_LONG = 8,    /* render: their length is above 4096 */
+    BLEIDHVAN_LENGTHS = 7,     /* render, play: temp, temp_2, out and aux differ in length */
+    BLEIDHVAN_TOO_LONG = 8,    /* render, play: their length is above 4096 */
     BLEIDHVAN_F0 = 9,          /* render: f0 not within 1/1048576 to 0.5 */
     BLEIDHVAN_ACCENT = 10,     /* render: accent not within 0 to 1, and likewise the next three */
     BLEIDHVAN_STRUCTURE = 11,
     BLEIDHVAN_BRIGHTNESS = 12,
-    BLEIDHVAN_DAMPING = 13
+    BLEIDHVAN_DAMPING = 13,
+    BLEIDHVAN_TOO_MANY = 14,     /* play: more than 64 events */
+    BLEIDHVAN_OUT_OF_ORDER = 15, /* play: the frame of an event is below that of the event before it in the sheet, whatever their slots */
+    BLEIDHVAN_PAST_END = 16      /* play: the frame of an event is at or past the end of the block */
 };
+
+/* An event of a sheet, of 36 bytes: from its frame on, counted from 0 in the block, its slot sounds as a render with these knobs makes it. */
+typedef struct {
+    uint32_t frame, slot, trigger, sustain;
+    float f0, accent, structure, brightness, damping;
+} bleidhvan_event;
+
+/* What an event is answered, of 32 bytes: the number and the counts of its render. */
+typedef struct {
+    uint32_t number;
+    size_t burst, dust, dispersion;
+} bleidhvan_answer;
 
 #ifdef __cplusplus
 extern "C" {
@@ -78,6 +98,15 @@ uint32_t bleidhvan_render(uint8_t *bank, size_t bank_len, float *lines, size_t l
                           float accent, float f0, float structure, float brightness, float damping, float *temp, size_t temp_len, float *temp_2,
                           size_t temp_2_len, float *out, size_t out_len, float *aux, size_t aux_len, size_t *burst, size_t *dust, size_t *dispersion,
                           bool slow_subnormals);
+
+/* A block of several slots, by a sheet of up to 64 events whose frames never go down: 0, or 1, 7, 8 or 14 to 16 where the sheet is refused whole.
+   The events make a render each, in the order of the sheet, on the frames from their own to the frame of the next event of their slot in the sheet, or to the end of the
+   block. So of two events of a slot on one frame the first makes a render of no frames, and a slot that no event names is left as it is.
+   answers: 64 of them. Each event's has at its place the number and the counts of its render, and those past the events are 0. An event that is refused, with 2, 5 or 9 to
+   13, changes nothing, and the others go on. Refused whole, all 64 have the sheet's number and zeros, and where answers_len is another they stay as they are. */
+uint32_t bleidhvan_play(uint8_t *bank, size_t bank_len, float *lines, size_t lines_len, uint32_t *word, const bleidhvan_event *sheet, size_t sheet_len,
+                        bleidhvan_answer *answers, size_t answers_len, float *temp, size_t temp_len, float *temp_2, size_t temp_2_len, float *out, size_t out_len,
+                        float *aux, size_t aux_len, bool slow_subnormals);
 
 #ifdef __cplusplus
 }
