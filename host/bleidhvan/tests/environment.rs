@@ -1,7 +1,7 @@
 //! The calls in every floating-point environment that a caller may have set: the same bits, and the caller's environment after it.
 
-use bleidhvan::raw::{self, Answer, LINES, SLOT_BYTES, exported};
-use bleidhvan::{Bank, Counts, Kind, Knobs, Refusal};
+use bleidhvan::raw::{self, Answer, EVENTS, LINES, SLOT_BYTES, exported};
+use bleidhvan::{Bank, Counts, Event, Kind, Knobs, Refusal};
 use std::arch::asm;
 use std::env;
 use std::os::unix::process::ExitStatusExt;
@@ -62,6 +62,7 @@ struct World {
     lines: Vec<f32>,
     word: u32,
     buffers: [Vec<f32>; 4],
+    answers: [Answer; EVENTS],
     slow: bool,
 }
 
@@ -71,18 +72,20 @@ enum Call {
     Open(usize, u32, f32),
     Reset(usize),
     Render(usize, Knobs),
+    Play([raw::Event; 2]),
 }
 
 impl World {
     fn new(frames: usize, slow: bool) -> Self {
         let bank = vec![0; 8 * SLOT_BYTES];
         let buffers = [0; 4].map(|_| vec![0.0; frames]);
-        World { bank, lines: vec![0.0; LINES], word: 33, buffers, slow }
+        let answers = [Answer::default(); EVENTS];
+        World { bank, lines: vec![0.0; LINES], word: 33, buffers, answers, slow }
     }
 
     /// The call through the wrapper.
     fn guarded(&mut self, call: &Call) -> Answer {
-        let World { bank, lines, word, buffers, slow } = self;
+        let World { bank, lines, word, buffers, answers, slow } = self;
         let counts = Counts::default();
         match *call {
             Call::Open(slot, kind, rate) => {
@@ -93,12 +96,17 @@ impl World {
                 let buffers = buffers.each_mut().map(|buffer| &mut buffer[..]);
                 raw::render(bank, lines, word, slot, knobs, buffers, *slow)
             }
+            Call::Play(ref sheet) => {
+                let buffers = buffers.each_mut().map(|buffer| &mut buffer[..]);
+                let number = raw::play(bank, lines, word, sheet, answers, buffers, *slow);
+                Answer { number, counts }
+            }
         }
     }
 
     /// The same without it, of what computes.
     fn unguarded(&mut self, call: &Call) -> Answer {
-        let World { bank, lines, word, buffers, slow } = self;
+        let World { bank, lines, word, buffers, answers, slow } = self;
         let (bytes, size) = (bank.as_mut_ptr(), bank.len());
         let (numbers, count) = (lines.as_mut_ptr(), lines.len());
         let Counts { mut burst, mut dust, mut dispersion } = Counts::default();
@@ -142,6 +150,31 @@ impl World {
                     )
                 }
             }
+            Call::Play(sheet) => {
+                let [temp, temp_2, out, aux] = buffers;
+                unsafe {
+                    exported::bleidhvan_play(
+                        bytes,
+                        size,
+                        numbers,
+                        count,
+                        word,
+                        sheet.as_ptr(),
+                        sheet.len(),
+                        answers.as_mut_ptr(),
+                        answers.len(),
+                        temp.as_mut_ptr(),
+                        temp.len(),
+                        temp_2.as_mut_ptr(),
+                        temp_2.len(),
+                        out.as_mut_ptr(),
+                        out.len(),
+                        aux.as_mut_ptr(),
+                        aux.len(),
+                        *slow,
+                    )
+                }
+            }
         };
         Answer { number, counts: Counts { burst, dust, dispersion } }
     }
@@ -153,6 +186,7 @@ impl World {
         };
         self.bank == other.bank
             && self.word == other.word
+            && self.answers == other.answers
             && same(&self.lines, &other.lines)
             && self.buffers.iter().zip(&other.buffers).all(|(one, other)| same(one, other))
     }
@@ -180,12 +214,28 @@ fn dying_away(slot: usize) -> Vec<Call> {
     (0..8).map(|k| Call::Render(slot, Knobs { trigger: k == 0, ..knobs })).collect()
 }
 
+/// A sheet of two events of a slot with the same knobs, at the first frame and at that one.
+fn sheet(frame: u32, slot: usize, knobs: &Knobs) -> Call {
+    Call::Play([0, frame].map(|frame| raw::Event::new(frame, slot as u32, knobs)))
+}
+
+/// The blocks of a voice that dies away, each by a sheet.
+fn dying_away_by_sheets(slot: usize) -> Vec<Call> {
+    let by_sheet = |call| match call {
+        Call::Render(slot, knobs) => sheet(100, slot, &knobs),
+        other => other,
+    };
+    dying_away(slot).into_iter().map(by_sheet).collect()
+}
+
 /// Both voices opened, struck until they are subnormal, sustained, and reset; and calls that are refused.
 fn calls() -> Vec<Call> {
     let mut calls = vec![opening(0), opening(1)];
     for slot in [0, 1] {
         let sustained = Knobs { sustain: true, ..Knobs::default() };
         calls.extend(dying_away(slot));
+        calls.extend(dying_away_by_sheets(slot));
+        calls.extend([100, FRAMES as u32].map(|frame| sheet(frame, slot, &sustained)));
         calls.extend([Call::Reset(slot), Call::Render(slot, Knobs { f0: f32::NAN, ..sustained })]);
         calls.extend(
             [0.1, 0.9].map(|structure| Call::Render(slot, Knobs { structure, ..sustained })),
@@ -213,7 +263,7 @@ fn every_environment_gives_the_same_bits_and_comes_back() {
         for slot in [0, 1] {
             assert!(expected.iter().any(|(_, _, world)| world.has_subnormal(slot)), "slot {slot}");
         }
-        for number in [0, 3, 6, 9] {
+        for number in [0, 3, 6, 9, 16] {
             assert!(expected.iter().any(|(_, answer, _)| answer.number == number), "{number}");
         }
         for mxcsr in environments() {
@@ -230,21 +280,21 @@ fn every_environment_gives_the_same_bits_and_comes_back() {
 }
 
 /// Whether a slot's renders differ where they are made without the guard, and the flags that they raise.
-fn differs_unguarded(mxcsr: u32, slot: usize, slow: bool) -> (bool, u32) {
+fn differs_unguarded(mxcsr: u32, slot: usize, slow: bool, calls: &[Call]) -> (bool, u32) {
     let mut expected = World::new(FRAMES, slow);
     assert_eq!(expected.guarded(&opening(slot)).number, 0);
     let (mut world, mut raised) = (expected.clone(), 0);
-    for call in dying_away(slot) {
-        assert_eq!(expected.guarded(&call).number, 0);
-        raised |= in_environment(mxcsr, || _ = world.unguarded(&call)) & FLAGS;
+    for call in calls {
+        assert_eq!(expected.guarded(call).number, 0);
+        raised |= in_environment(mxcsr, || _ = world.unguarded(call)) & FLAGS;
     }
     (!world.is_same(&expected), raised)
 }
 
 #[test]
 fn without_the_guard_the_bits_differ() {
-    for slow in [false, true] {
-        for slot in [0, 1] {
+    for (slow, slot) in [(false, 0), (false, 1), (true, 0), (true, 1)] {
+        for calls in [dying_away(slot), dying_away_by_sheets(slot)] {
             for bits in [
                 FLUSH_TO_ZERO,
                 DENORMALS_ARE_ZERO,
@@ -253,10 +303,10 @@ fn without_the_guard_the_bits_differ() {
                 UP,
                 TO_ZERO,
             ] {
-                let (differs, _) = differs_unguarded(DEFAULT | bits, slot, slow);
-                assert!(differs, "slot {slot}, {bits:#06x}, slow {slow}");
+                let (differs, _) = differs_unguarded(DEFAULT | bits, slot, slow, &calls);
+                assert!(differs, "slot {slot}, {bits:#06x}, slow {slow}, {:?}", calls[0]);
             }
-            let (differs, raised) = differs_unguarded(DEFAULT, slot, slow);
+            let (differs, raised) = differs_unguarded(DEFAULT, slot, slow, &calls);
             assert!(!differs, "slot {slot} in the default environment");
             assert_ne!(raised, 0, "slot {slot} raises flags");
         }
@@ -291,18 +341,23 @@ fn an_unmasked_exception_ends_the_process_without_the_guard_alone() {
     let name = "an_unmasked_exception_ends_the_process_without_the_guard_alone";
     let (mut buffers, mut world) = ([0; 4].map(|_| vec![0.0; 64]), World::new(64, false));
     let mut bank = Bank::new(33);
+    let strike = Knobs { trigger: true, ..Knobs::default() };
     match env::var(CHILD).as_deref() {
         Ok("guarded") => {
             let [mut opened, mut refused] = [Ok(()); 2];
             let mut rendered = Err(Refusal::Memory);
+            let mut played = Err(Refusal::Memory);
             let left = in_environment(0, || {
                 opened = bank.open(0, Kind::Modal, 48000.0);
                 let buffers = buffers.each_mut().map(|buffer| &mut buffer[..]);
-                rendered = bank.render(0, &Knobs { trigger: true, ..Knobs::default() }, buffers);
+                let others = world.buffers.each_mut().map(|buffer| &mut buffer[..]);
+                rendered = bank.render(0, &strike, buffers);
+                played = bank.play(&[Event { frame: 9, slot: 0, knobs: strike }], others);
                 refused = bank.reset(0);
             });
             assert_eq!((opened, refused), (Ok(()), Err(Refusal::NoReset { slot: 0 })));
             assert_eq!((rendered, left), (Ok(Counts::default()), 0));
+            assert_eq!(played.map(|answers| answers.to_vec()), Ok(vec![Ok(Counts::default())]));
         }
         Ok(_) => {
             world.guarded(&Call::Open(1, 2, 48000.0));

@@ -1,8 +1,8 @@
 //! What a caller with pointers may lend to the exported functions.
 
-use bleidhvan::raw::{self, Answer, LINES, SLOT_BYTES, exported};
+use bleidhvan::raw::{self, Answer, EVENTS, Event, LINES, SLOT_BYTES, exported};
 use bleidhvan::{Counts, Knobs};
-use std::ptr::null_mut;
+use std::ptr::{null, null_mut};
 
 const BANK_BYTES: usize = 8 * SLOT_BYTES;
 
@@ -98,6 +98,73 @@ fn an_empty_slice_may_be_null() {
         assert_eq!(exported::bleidhvan_reset(null_mut(), 0, null_mut(), 0, 0), 1);
     }
     assert_eq!(by_null(&mut [], &mut lines, &mut 33, 0, 0).number, 1);
+}
+
+/// A sheet of no events over no frames, by null pointers but for the answers.
+fn play_by_null(bank: &mut [u8], lines: &mut [f32], word: &mut u32, answers: &mut [Answer]) -> u32 {
+    let (bytes, size) = (bank.as_mut_ptr(), bank.len());
+    let (numbers, count) = (lines.as_mut_ptr(), lines.len());
+    let (given, none) = (answers.as_mut_ptr(), null_mut());
+    unsafe {
+        exported::bleidhvan_play(
+            bytes,
+            size,
+            numbers,
+            count,
+            word,
+            null(),
+            0,
+            given,
+            answers.len(),
+            none,
+            0,
+            none,
+            0,
+            none,
+            0,
+            none,
+            0,
+            false,
+        )
+    }
+}
+
+#[test]
+fn a_sheet_of_no_events_may_be_null() {
+    let (mut bank, mut lines, mut word) = (vec![0; BANK_BYTES], vec![0.0; LINES], 33);
+    assert_eq!(raw::fresh(&mut bank), 0);
+    let before = bank.clone();
+    let given = Answer { number: 9, counts: Counts { burst: 1, dust: 2, dispersion: 3 } };
+    let mut answers = [given; EVENTS];
+    assert_eq!(play_by_null(&mut bank, &mut lines, &mut word, &mut answers), 0);
+    assert_eq!(answers, [Answer::default(); EVENTS]);
+    answers.fill(given);
+    assert_eq!(play_by_null(&mut bank, &mut lines, &mut word, &mut answers[1..]), 1);
+    assert_eq!(answers, [given; EVENTS], "answers of another length stay");
+    assert_eq!(play_by_null(&mut [], &mut lines, &mut word, &mut answers), 1);
+    assert_eq!(answers, [Answer { number: 1, counts: Counts::default() }; EVENTS]);
+    assert!(before == bank && word == 33 && lines.iter().all(|x| x.to_bits() == 0));
+}
+
+#[test]
+fn a_flag_of_an_event_is_0_or_1() {
+    let (mut lines, mut word) = (vec![0.0; LINES], 33);
+    let mut bank = vec![0; BANK_BYTES];
+    assert_eq!(raw::fresh(&mut bank), 0);
+    let plain = Event::new(3, 9, &knobs());
+    for (trigger, sustain) in [(2, 0), (0, 2), (u32::MAX, 1), (1, u32::MAX), (256, 0)] {
+        for place in [0, 40, 64] {
+            let mut sheet = [plain; EVENTS + 1];
+            sheet[place] = Event { trigger, sustain, ..plain };
+            let mut answers = [Answer::default(); EVENTS];
+            let mut buffers = [[0.0; 2], [0.0; 2], [0.0; 2], [0.0; 2]];
+            let lent = buffers.each_mut().map(|buffer| &mut buffer[..]);
+            let number =
+                raw::play(&mut bank, &mut lines, &mut word, &sheet, &mut answers, lent, false);
+            assert_eq!(number, 1, "{trigger} and {sustain} at {place}");
+            assert!(answers.iter().all(|answer| answer.number == 1));
+        }
+    }
 }
 
 #[test]
