@@ -2,7 +2,7 @@
 # make install PREFIX=/usr/local: the tool, its man page and completions, and the header, library and pkg-config file for C; DESTDIR is put in front.
 # make test: the whole gate, whose last line is 'N passed, 0 failed'.
 # make bench: the speed of the leaves, of both voices, of the exported calls and of whole notes beside the Rust's, and of the wrapper's guard beside none, as ratios; PARTS="keyboard" times that alone.
-# make compare: two million blocks of random and extreme lists, in the exported bank and in the Rust.
+# make compare: two million blocks of random and extreme lists, in the exported bank and in the Rust, and 200,000 random sheets beside the same renders one by one.
 # make replay: the recorded answers of the Rust, asked of the exported functions again.
 # make record: the oracle's answers for the program replay, written anew.
 # make mutants: two wrong programs for every function that has a contract, made by chance, each of which must be refused; some 40 minutes.
@@ -51,7 +51,7 @@ bench: $(libraries)/libleaves_abi.a $(libraries)/libvoices_abi.a $(libraries)/li
 	@host/cargo run --quiet --profile speed -p bench -- $(PARTS)
 
 compare: $(libraries)/libbank_abi.a
-	@host/cargo run --quiet --release -p compare -- --seed 2026 --blocks 2000000
+	@host/cargo run --quiet --release -p compare -- --seed 2026 --blocks 2000000 --sheets 200000
 
 replay: $(libraries)/libbank_abi.a $(libraries)/libleaves_abi.a
 	@host/cargo run --quiet --release -p replay

@@ -1,11 +1,12 @@
 //! A list of calls, made on both sides and compared after each.
 
 use crate::list::List;
+use crate::same::{same, same_buffers, same_floats, same_words};
 use bleidhvan::raw::{self, Answer, SLOT_BYTES};
 use bleidhvan::{Counts, Knobs, layout};
 use record::banks::bank::Bank;
 use record::banks::format::{Asked, Call, Lent, MEMORY};
-use record::draws::{buffer, canonical};
+use record::draws::buffer;
 use record::voices::format::Render;
 use record::voices::player::{Buffers, Halt};
 
@@ -197,36 +198,6 @@ impl Sides {
         tally.non_finite += u64::from(any(|x| !x.is_finite()));
         tally.denormal += u64::from(any(|x| x.is_subnormal()));
     }
-}
-
-fn same<T: PartialEq + std::fmt::Debug>(what: &str, ours: T, theirs: T) -> Result<(), String> {
-    match ours == theirs {
-        true => Ok(()),
-        false => Err(format!("{what} differs: {ours:?} here, {theirs:?} there")),
-    }
-}
-
-fn same_words(what: &str, ours: &[u32], theirs: &[u32]) -> Result<(), String> {
-    same(&format!("the count of each {what}"), ours.len(), theirs.len())?;
-    match ours.iter().zip(theirs).position(|(a, b)| a != b) {
-        None => Ok(()),
-        Some(k) => {
-            let [a, b] = [ours[k], theirs[k]];
-            Err(format!("{what} {k} differs: {a:#010x} here, {b:#010x} there"))
-        }
-    }
-}
-
-/// Two NaNs are equal.
-fn same_floats(what: &str, ours: &[f32], theirs: &[f32]) -> Result<(), String> {
-    let words = |floats: &[f32]| -> Vec<u32> { floats.iter().copied().map(canonical).collect() };
-    same_words(what, &words(ours), &words(theirs))
-}
-
-fn same_buffers(ours: &Buffers, theirs: &Buffers) -> Result<(), String> {
-    let names = ["sample of temp", "sample of temp_2", "sample of out", "sample of aux"];
-    let pairs = ours.iter().zip(theirs);
-    names.iter().zip(pairs).try_for_each(|(name, (ours, theirs))| same_floats(name, ours, theirs))
 }
 
 const _: () = assert!(SLOT_BYTES * 8 == 3144);
