@@ -2,6 +2,7 @@
 
 use std::process::ExitCode;
 
+#[cfg_attr(no_plaits, allow(dead_code))]
 const USAGE: &str = "usage: compare [--seed N] [--blocks N] [--sheets N]
   --seed N     the run's number, from which all lists are drawn (1)
   --blocks N   so many blocks are heard on both sides at least (200000)
@@ -101,7 +102,7 @@ fn sheets(asked: &Asked) -> Result<(), String> {
         })?;
         number += 1;
     }
-    for line in tally.lines() {
+    for line in tally.lines(asked.seed) {
         println!("compare: {line}");
     }
     let missing = tally.missing();

@@ -31,9 +31,9 @@ pub struct Tally {
 /// The kinds of cases besides the numbers.
 const CASES: [&str; 16] = [
     "sheets of no events",
-    "of 64 events",
-    "on one slot",
-    "on eight slots",
+    "sheets of 64 events",
+    "sheets on one slot",
+    "sheets on eight slots",
     "blocks of no frames",
     "blocks of 4,096 frames",
     "events on the frame of the one before",
@@ -78,9 +78,9 @@ impl Tally {
         slots.sort();
         slots.dedup();
         self.add("sheets of no events", usize::from(sheet.is_empty()));
-        self.add("of 64 events", usize::from(sheet.len() == EVENTS));
-        self.add("on one slot", usize::from(slots.len() == 1));
-        self.add("on eight slots", usize::from(slots.len() == 8));
+        self.add("sheets of 64 events", usize::from(sheet.len() == EVENTS));
+        self.add("sheets on one slot", usize::from(slots.len() == 1));
+        self.add("sheets on eight slots", usize::from(slots.len() == 8));
         self.add("blocks of no frames", usize::from(frames == 0));
         self.add("blocks of 4,096 frames", usize::from(frames == 4096));
         self.add("banks of any floats", usize::from(foreign));
@@ -124,34 +124,31 @@ impl Tally {
         missing
     }
 
-    /// What is printed of it.
-    pub fn lines(&self) -> Vec<String> {
-        let Tally { lists, sheets, events, heard, accepted, samples, departures, .. } = self;
+    /// What is printed of a run of that seed.
+    pub fn lines(&self, seed: u32) -> Vec<String> {
+        let Tally { lists, sheets, events, heard, accepted, samples, .. } = self;
+        let [first, second, third] = self.departures;
         let refused: u64 = self.whole.values().sum();
+        let (two, least) = (self.pairs.values().sum::<u64>(), self.pairs.values().min());
         let numbers = |counts: &BTreeMap<u32, u64>| -> String {
             let each = |(number, times): (&u32, &u64)| format!("{number}: {times}");
             counts.iter().map(each).collect::<Vec<_>>().join(", ")
         };
-        let cases: Vec<String> =
-            self.cases.iter().map(|(case, times)| format!("{case}: {times}")).collect();
-        let two: u64 = self.pairs.values().sum();
+        let case = |case: &&str| format!("{case}: {}", self.cases.get(case).unwrap_or(&0));
+        let cases: Vec<String> = CASES.iter().map(case).collect();
+        let (whole, own) = (numbers(&self.whole), numbers(&self.own));
         vec![
+            format!("seed {seed}: {lists} lists of {sheets} sheets with {events} events"),
             format!(
-                "{lists} lists of {sheets} sheets with {events} events, {refused} sheets refused whole ({})",
-                numbers(&self.whole)
+                "sheets refused whole: {refused}, by number {whole}; two numbers at once: {two}, each pair {} times or more",
+                least.unwrap_or(&0)
             ),
             format!(
-                "sheets with two faults at once: {two}, each pair of numbers among them {} times at least",
-                self.pairs.values().min().unwrap_or(&0)
+                "events of the others by number {own}; {accepted} renders of {samples} samples, {heard} of them heard in the Rust too"
             ),
+            cases.join(", "),
             format!(
-                "events answered {}; {accepted} renders of {samples} frames, {heard} of them heard in the Rust too",
-                numbers(&self.own)
-            ),
-            cases.join("; "),
-            format!(
-                "voices stopped in sheets at departures 1, 2 and 3: {}, {}, {}",
-                departures[0], departures[1], departures[2]
+                "voices stopped in sheets at departures 1, 2 and 3: {first}, {second}, {third}"
             ),
         ]
     }
