@@ -1,7 +1,7 @@
 # make render: proves and builds what is not built yet, and renders the example sheet to the folder rendered.
 # make install PREFIX=/usr/local: the tool, its man page and completions, and the header, library and pkg-config file for C; DESTDIR is put in front.
 # make test: the whole gate, whose last line is 'N passed, 0 failed'.
-# make bench: the speed of the leaves, of both voices, of the exported calls and of whole notes beside the Rust's, and of the wrapper's guard beside none, as ratios; PARTS="keyboard" times that alone.
+# make bench: the speed of the leaves, of both voices, of the exported calls and of whole notes beside the Rust's, of the wrapper's guard beside none, and of sheets beside their renders, as ratios; PARTS="keyboard" times that alone.
 # make compare: two million blocks of random and extreme lists, in the exported bank and in the Rust, and 200,000 random sheets beside the same renders one by one.
 # make replay: the recorded answers of the Rust, asked of the exported functions again.
 # make record: the oracle's answers for the program replay, written anew.

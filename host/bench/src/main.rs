@@ -1,5 +1,5 @@
-//! Times the port's leaves, voices and exported calls beside the Rust's, and the wrapper's guard beside none: both built for release, alternated in one run, the ratio of
-//! each pair taken.
+//! Times the port's leaves, voices and exported calls beside the Rust's, the wrapper's guard beside none, and sheets beside their renders: both built for release, alternated in
+//! one run, the ratio of each pair taken.
 
 use std::process::ExitCode;
 
@@ -20,13 +20,15 @@ mod ratio;
 #[cfg(not(any(no_plaits, no_leaves)))]
 mod run;
 #[cfg(not(any(no_plaits, no_leaves)))]
+mod sheets;
+#[cfg(not(any(no_plaits, no_leaves)))]
 mod strings;
 #[cfg(not(any(no_plaits, no_leaves)))]
 mod whole_notes;
 
 /// What is timed, by the names that the command line takes.
 #[cfg(not(any(no_plaits, no_leaves)))]
-const PARTS: [(&str, fn()); 7] = [
+const PARTS: [(&str, fn()); 8] = [
     ("leaves", run::all),
     ("strings", strings::all),
     ("modals", modals::all),
@@ -34,6 +36,7 @@ const PARTS: [(&str, fn()); 7] = [
     ("keyboard", keyboard::all),
     ("whole_notes", whole_notes::all),
     ("guard", guard::all),
+    ("sheets", sheets::all),
 ];
 
 #[cfg(not(any(no_plaits, no_leaves)))]

@@ -44,3 +44,19 @@ pub fn beside(name: &str, of: &str, digits: usize, one: impl FnMut(), other: imp
     let [low, middle, high] = [1, 5, 9].map(tenth);
     println!("{name}: {middle:.digits$} of {of} ({low:.digits$} to {high:.digits$})");
 }
+
+/// The median seconds of each of so many things, which are done in turn, 51 times.
+pub fn medians(things: usize, mut work: impl FnMut(usize)) -> Vec<f64> {
+    const ROUNDS: usize = 51;
+    let mut times = vec![Vec::with_capacity(ROUNDS); things];
+    for _ in 0..ROUNDS {
+        for (thing, times) in times.iter_mut().enumerate() {
+            times.push(seconds(&mut || work(thing)));
+        }
+    }
+    let median = |mut times: Vec<f64>| {
+        times.sort_by(f64::total_cmp);
+        times[ROUNDS / 2]
+    };
+    times.into_iter().map(median).collect()
+}

@@ -1,0 +1,228 @@
+//! Sheets through the exported player beside the same renders called singly, and what a sheet costs by its events and by its frames.
+
+use std::hint::black_box;
+
+use bleidhvan::raw::{self, Answer, EVENTS, Event, LINES, exported};
+use bleidhvan::{Counts, Knobs, slow_subnormals};
+
+use crate::buffers::{Buffers, same, silent};
+use crate::ratio::{beside, medians};
+
+const SLOTS: usize = 8;
+
+/// The kinds, sustain, f0 and structure of the slots.
+const VOICES: [(u32, bool, f32, f32); SLOTS] = [
+    (1, false, 0.0073, 0.1),
+    (2, false, 0.0073, 0.4),
+    (1, false, 0.0073, 0.8),
+    (2, true, 0.0073, 0.4),
+    (1, true, 0.0073, 0.8),
+    (2, false, 0.0021, 0.2),
+    (1, false, 0.0003, 0.1),
+    (2, true, 0.0021, 0.2),
+];
+
+/// As many events of each slot, on frames that are as far apart, so that every slot sounds in every frame; sustained some or all.
+fn sheet(events: usize, frames: usize, all_sustained: bool) -> Vec<Event> {
+    let each = events / SLOTS;
+    let event = |k: usize| {
+        let (_, sustain, f0, structure) = VOICES[k % SLOTS];
+        let knobs = Knobs {
+            sustain: sustain || all_sustained,
+            trigger: true,
+            accent: 0.5,
+            f0,
+            structure,
+            brightness: 0.5,
+            damping: 0.6,
+        };
+        Event::new((k / SLOTS * frames / each) as u32, (k % SLOTS) as u32, &knobs)
+    };
+    (0..events).map(event).collect()
+}
+
+/// The same as renders, each with its first frame and with the one behind its last.
+fn renders(sheet: &[Event], frames: usize) -> Vec<(Event, usize, usize)> {
+    let end = |k: usize| sheet.get(k + SLOTS).map_or(frames, |next| next.frame as usize);
+    sheet.iter().enumerate().map(|(k, event)| (*event, event.frame as usize, end(k))).collect()
+}
+
+/// What is lent to the calls.
+struct World {
+    bank: Vec<u8>,
+    lines: Vec<f32>,
+    word: u32,
+    buffers: Buffers,
+    answers: [Answer; EVENTS],
+    slow: bool,
+}
+
+impl World {
+    /// A bank whose slots are open, and buffers of so many frames.
+    fn new(frames: usize) -> Self {
+        let (mut bank, mut lines) = (vec![0; raw::bank_bytes()], vec![0.0; LINES]);
+        assert_eq!(raw::fresh(&mut bank), 0);
+        for (slot, (kind, ..)) in VOICES.into_iter().enumerate() {
+            assert_eq!(raw::open(&mut bank, &mut lines, slot, kind, 48000.0), 0);
+        }
+        let buffers = silent(frames);
+        let (answers, slow) = ([Answer::default(); EVENTS], slow_subnormals());
+        World { bank, lines, word: 33, buffers, answers, slow }
+    }
+}
+
+/// Blocks of a sheet, which sound on from those before.
+#[inline(never)]
+fn play(world: &mut World, sheet: &[Event], blocks: usize) {
+    for _ in 0..blocks {
+        let World { bank, lines, word, buffers: [temp, temp_2, out, aux], answers, slow } = world;
+        let number = unsafe {
+            exported::bleidhvan_play(
+                bank.as_mut_ptr(),
+                bank.len(),
+                lines.as_mut_ptr(),
+                lines.len(),
+                word,
+                sheet.as_ptr(),
+                sheet.len(),
+                answers.as_mut_ptr(),
+                answers.len(),
+                temp.as_mut_ptr(),
+                temp.len(),
+                temp_2.as_mut_ptr(),
+                temp_2.len(),
+                out.as_mut_ptr(),
+                out.len(),
+                aux.as_mut_ptr(),
+                aux.len(),
+                *slow,
+            )
+        };
+        assert_eq!(number, 0);
+    }
+}
+
+/// Blocks of its renders.
+#[inline(never)]
+fn singly(world: &mut World, renders: &[(Event, usize, usize)], blocks: usize) {
+    for _ in 0..blocks {
+        for (k, (event, from, to)) in renders.iter().enumerate() {
+            world.answers[k] = render(world, event, *from, *to);
+            assert_eq!(world.answers[k].number, 0);
+        }
+    }
+}
+
+fn render(world: &mut World, event: &Event, from: usize, to: usize) -> Answer {
+    let World { bank, lines, word, buffers, slow, .. } = world;
+    let Event { slot, trigger, sustain, f0, accent, structure, brightness, damping, .. } = *event;
+    let [temp, temp_2, out, aux] = buffers.each_mut().map(|buffer| &mut buffer[from..to]);
+    let Counts { mut burst, mut dust, mut dispersion } = Counts::default();
+    let number = unsafe {
+        exported::bleidhvan_render(
+            bank.as_mut_ptr(),
+            bank.len(),
+            lines.as_mut_ptr(),
+            lines.len(),
+            word,
+            slot as usize,
+            sustain == 1,
+            trigger == 1,
+            accent,
+            f0,
+            structure,
+            brightness,
+            damping,
+            temp.as_mut_ptr(),
+            temp.len(),
+            temp_2.as_mut_ptr(),
+            temp_2.len(),
+            out.as_mut_ptr(),
+            out.len(),
+            aux.as_mut_ptr(),
+            aux.len(),
+            &mut burst,
+            &mut dust,
+            &mut dispersion,
+            *slow,
+        )
+    };
+    Answer { number, counts: Counts { burst, dust, dispersion } }
+}
+
+/// A sheet beside its renders, with the same bits and the same answers.
+fn setting(events: usize, frames: usize) {
+    let (sheet, blocks) = (sheet(events, frames, false), 4096 / frames);
+    let renders = renders(&sheet, frames);
+    let [mut a, mut b] = [0; 2].map(|_| World::new(frames));
+    singly(&mut a, &renders, blocks);
+    play(&mut b, &sheet, blocks);
+    assert!(same(&a.buffers, &b.buffers), "the bits differ");
+    assert!((a.bank == b.bank) && (a.word, a.answers) == (b.word, b.answers), "the banks differ");
+    beside(
+        &format!("sheet of {events} events, blocks of {frames}"),
+        "the time of its renders called singly",
+        3,
+        || singly(&mut a, black_box(&renders), blocks),
+        || play(&mut b, black_box(&sheet), blocks),
+    );
+}
+
+/// Prints what one block costs by something that grows, in parts of the first one's cost, and how far a straight line is from it. All voices
+/// are sustained, since a struck one costs more or less a frame as it dies away.
+fn table(what: &str, sizes: &[usize], sheets: Vec<(Vec<Event>, usize)>) {
+    let mut worlds: Vec<World> = sheets.iter().map(|(_, frames)| World::new(*frames)).collect();
+    let costs = medians(sheets.len(), |k| {
+        let (sheet, frames) = &sheets[k];
+        play(&mut worlds[k], black_box(sheet), 4096 / frames);
+    });
+    let block = |k: usize| costs[k] / (4096 / sheets[k].1) as f64;
+    let points: Vec<(f64, f64)> =
+        sizes.iter().enumerate().map(|(k, size)| (*size as f64, block(k) / block(0))).collect();
+    let (at_none, each) = line(&points);
+    println!("{what}");
+    for (size, cost) in &points {
+        let off = 100.0 * ((at_none + each * size) / cost - 1.0);
+        println!("{size:>6} {cost:>8.3}   the line is {off:+.1} % off");
+    }
+    println!("  the line: {at_none:.4} and {each:.5} for each");
+}
+
+/// The straight line through points whose parts it misses least, as its height at 0 and its slope.
+fn line(points: &[(f64, f64)]) -> (f64, f64) {
+    let sum =
+        |of: fn(f64, f64) -> f64| -> f64 { points.iter().map(|(x, y)| of(*x, *y) / (y * y)).sum() };
+    let [n, x, y, xx, xy] =
+        [sum(|_, _| 1.0), sum(|x, _| x), sum(|_, y| y), sum(|x, _| x * x), sum(|x, y| x * y)];
+    let slope = (n * xy - x * y) / (n * xx - x * x);
+    ((y - slope * x) / n, slope)
+}
+
+pub fn all() {
+    for frames in [24, 64, 512, 4096] {
+        setting(8, frames);
+        if frames > 24 {
+            setting(64, frames);
+        }
+    }
+    let sizes = [8, 16, 24, 32, 40, 48, 56, 64];
+    for frames in [64, 512] {
+        let sheets = sizes.map(|events| (sheet(events, frames, true), frames));
+        table(
+            &format!("the cost of a block of {frames} by its events, in parts of the first"),
+            &sizes,
+            sheets.into(),
+        );
+    }
+    let sizes = [64, 128, 256, 512, 1024, 2048, 4096];
+    for events in [8, 64] {
+        let sheets = sizes.map(|frames| (sheet(events, frames, true), frames));
+        table(
+            &format!(
+                "the cost of {events} events by the frames of their block, in parts of the first"
+            ),
+            &sizes,
+            sheets.into(),
+        );
+    }
+}
