@@ -1,4 +1,4 @@
-/* The bank's calls, of libbank_abi.a (make target/staticlib/libbank_abi.a). docs/ABI.md has the same at more length, an example, the bytes of a bank, and what no
+/* The bank's calls, of libbank_abi.a (make target/staticlib/libbank_abi.a). docs/ABI.md has the same at more length, examples, the bytes of a bank, and what no
    theorem covers.
 
    A slice is a pointer and the number of its elements. Each pointer has as many elements as its length says, and nothing lent to one call may overlap. A pointer may be

@@ -178,15 +178,18 @@ impl fmt::Display for Refusal {
                 f,
                 "event {event}, counted from 0, is at frame {frame}, and the one before it at {before}: put the events in the order of their frames"
             ),
-            Refusal::PastEnd { event, frame, frames: 0 } => write!(
-                f,
-                "event {event}, counted from 0, is at frame {frame} of a block of no frames: such a block takes no event"
-            ),
-            Refusal::PastEnd { event, frame, frames } => write!(
-                f,
-                "event {event}, counted from 0, is at frame {frame} of a block of {frames}: give it a frame from 0 to {}, or put it in a later block",
-                frames - 1
-            ),
+            Refusal::PastEnd { event, frame, frames } => past_end(f, *event, *frame, *frames),
+        }
+    }
+}
+
+/// What is said of an event at or past the end of a block of so many frames.
+fn past_end(f: &mut fmt::Formatter<'_>, event: usize, frame: usize, frames: usize) -> fmt::Result {
+    write!(f, "event {event}, counted from 0, is at frame {frame} of a block of ")?;
+    match frames.checked_sub(1) {
+        None => write!(f, "no frames: such a block takes no event"),
+        Some(last) => {
+            write!(f, "{frames}: give it a frame from 0 to {last}, or put it in a later block")
         }
     }
 }

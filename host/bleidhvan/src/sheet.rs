@@ -164,3 +164,18 @@ fn refused_whole(number: u32, sheet: &[Event], lengths: [usize; 4]) -> Refusal {
         _ => refusal(number, Asked { lengths, ..Asked::default() }),
     }
 }
+
+#[cfg(test)]
+mod tests {
+    use super::*;
+
+    #[test]
+    fn bytes_that_are_no_bank_are_refused_before_all_else() {
+        let mut bank = Bank::new(33);
+        bank.bytes[0] = 3;
+        let sheet = [9, 8].map(|frame| Event { frame, ..Event::default() });
+        let [mut temp, mut temp_2, mut out, mut aux] = [1, 2, 3, 4].map(|n| vec![0.0; n]);
+        let answers = bank.play(&sheet, [&mut temp, &mut temp_2, &mut out, &mut aux]);
+        assert_eq!(answers, Err(Refusal::Memory));
+    }
+}

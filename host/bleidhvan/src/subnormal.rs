@@ -20,10 +20,10 @@ const SUMMANDS: [f32; 2] = [0.3, 3e-40];
 /// Whether a multiplication of subnormal numbers takes this processor long.
 ///
 /// It is timed once per process, at the first call, in some tens of microseconds, in the environment in which a render runs.
-/// [`Bank::render`] hands the answer on to [`raw::render`]: it changes no bit of any result, only the time.
+/// [`Bank::render`] and [`Bank::play`] hand the answer on to the library: it changes no bit of any result, only the time.
 ///
-/// [`raw::render`]: crate::raw::render
 /// [`Bank::render`]: crate::Bank::render
+/// [`Bank::play`]: crate::Bank::play
 pub fn slow_subnormals() -> bool {
     static FOUND: OnceLock<bool> = OnceLock::new();
     *FOUND.get_or_init(found)

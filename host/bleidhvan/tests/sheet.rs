@@ -84,6 +84,25 @@ fn a_sheet_makes_the_renders_of_its_events() {
     assert_eq!(ours, theirs);
 }
 
+/// Each knob and each flag has a value of its own, so that none can stand for another.
+#[test]
+fn every_knob_crosses_as_itself() {
+    for (slot, flags) in (0..2).flat_map(|slot| (0..4).map(move |flags| (slot, flags))) {
+        let (sustain, trigger) = (flags & 1 != 0, flags & 2 != 0);
+        let [f0, accent, structure, brightness, damping] = [0.031, 0.87, 0.63, 0.42, 0.21];
+        let knobs = Knobs { sustain, trigger, accent, f0, structure, brightness, damping };
+        let (mut one, mut other) = (bank(), bank());
+        let [mut ours, mut theirs] = [0; 2].map(|_| buffers(64));
+        for frame in [0, 7] {
+            let event = Event { frame, slot, knobs };
+            let answers = play(&mut one, &[event], &mut ours);
+            assert_eq!(answers, [render(&mut other, &event, 64, &mut theirs)]);
+        }
+        assert!(one.to_saved() == other.to_saved(), "slot {slot}, {knobs:?}: the banks differ");
+        assert_eq!(ours, theirs, "slot {slot}, {knobs:?}");
+    }
+}
+
 #[test]
 fn a_sheet_has_up_to_64_events_and_as_many_answers() {
     for events in [0, 1, 63, 64] {
@@ -124,8 +143,11 @@ fn a_frame_past_the_end_is_refused_with_the_event_and_the_block() {
 #[test]
 fn of_two_faults_the_first_by_number_is_given() {
     let many = at(&[[9; 64].as_slice(), &[8, 7]].concat());
-    assert_eq!(refusal(&many, [4, 4, 4, 5]).number(), 7);
-    assert_eq!(refusal(&many, [4097; 4]).number(), 8);
+    let lengths = [4097, 4, 4, 5];
+    let unlike = Refusal::Lengths { lengths };
+    assert_eq!((refusal(&many, lengths), unlike.number()), (unlike, 7));
+    let long = Refusal::TooLong { frames: 4097 };
+    assert_eq!((refusal(&many, [4097; 4]), long.number()), (long, 8));
     assert_eq!(refusal(&many, [4; 4]), Refusal::TooMany { events: 66 });
     let down = Refusal::OutOfOrder { event: 2, frame: 2, before: 9 };
     assert_eq!(refusal(&at(&[9, 9, 2]), [4; 4]), down);
