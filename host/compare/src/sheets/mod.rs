@@ -1,11 +1,14 @@
 //! Sheets in the exported player, beside the same renders made one by one by the exported render, and beside another side, which may be
 //! the Rust.
 
+mod beside;
 pub mod list;
 pub mod model;
 #[cfg(not(no_plaits))]
 pub mod rust;
 pub mod tally;
+
+pub use beside::{Beside, Nothing, Single};
 
 use crate::same::{same, same_buffers, same_floats};
 use bleidhvan::layout::slot_bytes;
@@ -33,49 +36,6 @@ pub struct Difference {
     pub text: String,
 }
 
-/// An accepted event's render by itself, which another side makes too.
-pub struct Single<'a> {
-    pub event: &'a Event,
-    /// The generator's word before the render and after it.
-    pub words: [u32; 2],
-    /// The parts of the buffers as the render left them, and those that the other side renders.
-    pub left: [&'a [f32]; 4],
-    pub parts: [&'a mut [f32]; 4],
-}
-
-/// The other side: it is told what is opened and reset, makes each accepted render, and compares a slot after the sheet.
-pub trait Beside {
-    fn open(&mut self, slot: usize, kind: u32, rate: f32);
-    fn reset(&mut self, slot: usize);
-    fn render(&mut self, single: Single<'_>, tally: &mut Tally) -> Result<(), String>;
-    fn same_slot(&self, slot: usize, bytes: &[u8], lines: &[f32]) -> Result<(), String>;
-    /// The slots of which nothing is known until they are opened again.
-    fn stopped(&self) -> [bool; 8];
-}
-
-/// No other side: its buffers are those that the renders leave.
-pub struct Nothing;
-
-impl Beside for Nothing {
-    fn open(&mut self, _: usize, _: u32, _: f32) {}
-
-    fn reset(&mut self, _: usize) {}
-
-    fn render(&mut self, single: Single<'_>, _: &mut Tally) -> Result<(), String> {
-        let Single { left, parts, .. } = single;
-        parts.into_iter().zip(left).for_each(|(part, left)| part.copy_from_slice(left));
-        Ok(())
-    }
-
-    fn same_slot(&self, _: usize, _: &[u8], _: &[f32]) -> Result<(), String> {
-        Ok(())
-    }
-
-    fn stopped(&self) -> [bool; 8] {
-        [false; 8]
-    }
-}
-
 /// A bank with its lines and its word; bank and lines have an element more than a call accepts.
 #[derive(Clone)]
 struct World {
@@ -93,6 +53,15 @@ struct Sides {
     /// By 01's ledger, none where a slot began with any numbers.
     ledgers: [Option<Ledger>; 8],
     foreign: bool,
+}
+
+/// What a player is given and what it leaves there, and the buffers as they were filled.
+struct Given<'a> {
+    lent: &'a Lent,
+    slow: bool,
+    answers: Vec<Answer>,
+    buffers: Buffers,
+    filled: Buffers,
 }
 
 /// Plays a list's sheets on all sides, or says where they part.
@@ -174,35 +143,30 @@ impl Sides {
         tally.sheets += 1;
         tally.events += lent.sheet.len() as u64;
         let filled = from_fn(|k| buffer(lent.lengths[k], lent.fill.wrapping_add(k as u32)));
-        let mut buffers: Buffers = filled.clone();
-        let mut answers = vec![UNTOUCHED; lent.answers];
-        let number = self.player(lent, &mut buffers, &mut answers, slow)?;
+        let (buffers, answers) = (filled.clone(), vec![UNTOUCHED; lent.answers]);
+        let mut given = Given { lent, slow, answers, buffers, filled };
+        let number = self.player(&mut given)?;
         let faults = model::faults(&lent.asked());
         same("the sheet's number", number, *faults.first().unwrap_or(&0))?;
         if number == 0 {
-            return self.played(lent, &answers, &buffers, filled, slow, beside, tally);
+            return self.played(&given, beside, tally);
         }
         tally.refused(lent, &faults);
         let all = Answer { number, counts: Counts::default() };
         let expected = if lent.answers == EVENTS { all } else { UNTOUCHED };
-        same_answers(&answers, &vec![expected; lent.answers])?;
-        same_buffers(&buffers, &filled).and(self.same_worlds())
+        same_answers(&given.answers, &vec![expected; lent.answers])?;
+        same_buffers(&given.buffers, &given.filled).and(self.same_worlds())
     }
 
     /// The player's number, with a byte of the bank spoiled for the call.
-    fn player(
-        &mut self,
-        lent: &Lent,
-        buffers: &mut Buffers,
-        answers: &mut [Answer],
-        slow: bool,
-    ) -> Result<u32, String> {
+    fn player(&mut self, given: &mut Given<'_>) -> Result<u32, String> {
+        let Given { lent, slow, answers, buffers, .. } = given;
         let World { bytes, lines, word } = &mut self.ours;
         let own = lent.spoiled.map(|(place, value)| (place, value, bytes[place]));
         own.iter().for_each(|(place, value, _)| bytes[*place] = *value);
         let (bank, lines) = (&mut bytes[..lent.bank], &mut lines[..lent.lines]);
-        let lent_buffers = buffers.each_mut().map(|buffer| &mut buffer[..]);
-        let number = (self.player)(bank, lines, word, &lent.sheet, answers, lent_buffers, slow);
+        let buffers = buffers.each_mut().map(|buffer| &mut buffer[..]);
+        let number = (self.player)(bank, lines, word, &lent.sheet, answers, buffers, *slow);
         if let Some((place, value, before)) = own {
             same("the byte that is no bank's", bytes[place], value)?;
             bytes[place] = before;
@@ -213,30 +177,26 @@ impl Sides {
     /// Makes the renders of a sheet that was played, and compares what they leave with what the player left.
     fn played(
         &mut self,
-        lent: &Lent,
-        answers: &[Answer],
-        buffers: &Buffers,
-        filled: Buffers,
-        slow: bool,
+        given: &Given<'_>,
         beside: &mut impl Beside,
         tally: &mut Tally,
     ) -> Result<(), String> {
+        let Given { lent, slow, answers, buffers, filled } = given;
         let numbers: Vec<u32> =
             lent.sheet.iter().map(|event| model::number(&self.kinds, event)).collect();
         let ends = model::ends(&lent.sheet, lent.lengths[0]);
         tally.played(lent, &numbers, &ends, self.foreign);
-        let [mut singles, mut others] = [filled.clone(), filled];
+        let [mut singles, mut others] = [filled.clone(), filled.clone()];
         let mut expected = [Answer::default(); EVENTS];
         for (k, event) in lent.sheet.iter().enumerate() {
-            let words = self.theirs.word;
+            let before = self.theirs.word;
             let range = event.frame as usize..ends[k];
             let parts = singles.each_mut().map(|buffer| &mut buffer[range.clone()]);
-            let answer = self.single(event, numbers[k], parts, !slow)?;
-            expected[k] = answer;
-            if answer.number == 0 {
+            expected[k] = self.single(event, numbers[k], parts, !slow)?;
+            if numbers[k] == 0 {
                 let left = singles.each_ref().map(|buffer| &buffer[range.clone()]);
                 let parts = others.each_mut().map(|buffer| &mut buffer[range.clone()]);
-                let words = [words, self.theirs.word];
+                let words = [before, self.theirs.word];
                 beside.render(Single { event, words, left, parts }, tally)?;
             }
         }

@@ -64,13 +64,9 @@ pub fn play<const WRONG: usize>(
     let lengths = buffers.each_ref().map(|buffer| buffer.len());
     let memory = raw::reset(bank, lines, 8) != 1;
     let number = number::<WRONG>(memory, sheet, answers.len(), lengths);
-    let counts = Counts::default();
     if number != 0 {
-        let written = if WRONG == ONE_ANSWER { 1 } else { EVENTS };
-        if answers.len() == EVENTS || WRONG == OTHER_LENGTH {
-            answers.iter_mut().take(written).for_each(|answer| *answer = Answer { number, counts });
-        }
         *word ^= u32::from(WRONG == WORD_MOVES);
+        refuse::<WRONG>(number, answers);
         return number;
     }
     if WRONG != NO_ZEROS {
@@ -79,18 +75,13 @@ pub fn play<const WRONG: usize>(
     let sheet = &sheet[..sheet.len().min(EVENTS)];
     let ends = ends::<WRONG>(bank, sheet, lengths[0]);
     let first = *word;
-    let mut order: Vec<usize> = (0..sheet.len()).collect();
-    if WRONG == BACKWARDS {
-        order.reverse();
-    }
-    for k in order {
+    for turn in 0..sheet.len() {
+        let k = if WRONG == BACKWARDS { sheet.len() - 1 - turn } else { turn };
         let (from, to) = (sheet[k].frame as usize, ends[k]);
         if WRONG == EMPTY_SKIPPED && from == to {
             continue;
         }
-        if WRONG == OWN_WORDS {
-            *word = first;
-        }
+        *word = if WRONG == OWN_WORDS { first } else { *word };
         let parts = buffers.each_mut().map(|buffer| &mut buffer[from..to]);
         let (slot, knobs) = (sheet[k].slot as usize, knobs_of(&sheet[k]));
         answers[k] = raw::render(bank, lines, word, slot, &knobs, parts, slow);
@@ -98,10 +89,20 @@ pub fn play<const WRONG: usize>(
             break;
         }
     }
-    if WRONG == NEIGHBOUR && sheet.len() > 1 {
+    if WRONG == NEIGHBOUR && !sheet.is_empty() {
         answers[..sheet.len()].rotate_left(1);
     }
     0
+}
+
+/// The answers of a sheet that is refused whole.
+fn refuse<const WRONG: usize>(number: u32, answers: &mut [Answer]) {
+    let written = match (WRONG, answers.len()) {
+        (ONE_ANSWER, EVENTS) => 1,
+        (OTHER_LENGTH, written) | (_, written @ EVENTS) => written,
+        _ => 0,
+    };
+    answers[..written].fill(Answer { number, counts: Counts::default() });
 }
 
 /// The sheet's number, wrong in one check or none.
