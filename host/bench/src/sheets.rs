@@ -1,9 +1,10 @@
-//! Sheets through the exported player beside the same renders called singly, and what a sheet costs by its events and by its frames.
+//! Sheets through the exported player beside the same renders called singly, through the wrapper beside the exported player, and what a sheet
+//! costs by its events and by its frames.
 
 use std::hint::black_box;
 
 use bleidhvan::raw::{self, Answer, EVENTS, Event, LINES, exported};
-use bleidhvan::{Counts, Knobs, slow_subnormals};
+use bleidhvan::{Bank, Counts, Kind, Knobs, slow_subnormals};
 
 use crate::buffers::{Buffers, same, silent};
 use crate::ratio::{beside, medians};
@@ -26,19 +27,32 @@ const VOICES: [(u32, bool, f32, f32); SLOTS] = [
 fn sheet(events: usize, frames: usize, all_sustained: bool) -> Vec<Event> {
     let each = events / SLOTS;
     let event = |k: usize| {
-        let (_, sustain, f0, structure) = VOICES[k % SLOTS];
-        let knobs = Knobs {
-            sustain: sustain || all_sustained,
-            trigger: true,
-            accent: 0.5,
-            f0,
-            structure,
-            brightness: 0.5,
-            damping: 0.6,
-        };
+        let knobs = knobs(k % SLOTS, all_sustained);
         Event::new((k / SLOTS * frames / each) as u32, (k % SLOTS) as u32, &knobs)
     };
     (0..events).map(event).collect()
+}
+
+fn knobs(slot: usize, all_sustained: bool) -> Knobs {
+    let (_, sustain, f0, structure) = VOICES[slot];
+    Knobs {
+        sustain: sustain || all_sustained,
+        trigger: true,
+        accent: 0.5,
+        f0,
+        structure,
+        brightness: 0.5,
+        damping: 0.6,
+    }
+}
+
+/// The same sheet as the wrapper takes it.
+fn wrapped(sheet: &[Event]) -> Vec<bleidhvan::Event> {
+    let event = |event: &Event| {
+        let [frame, slot] = [event.frame, event.slot].map(|number| number as usize);
+        bleidhvan::Event { frame, slot, knobs: knobs(slot, false) }
+    };
+    sheet.iter().map(event).collect()
 }
 
 /// The same as renders, each with its first frame and with the one behind its last.
@@ -168,6 +182,36 @@ fn setting(events: usize, frames: usize) {
     );
 }
 
+/// Blocks of a sheet through the wrapper.
+#[inline(never)]
+fn play_wrapped(bank: &mut Bank, sheet: &[bleidhvan::Event], buffers: &mut Buffers, blocks: usize) {
+    for _ in 0..blocks {
+        let buffers = buffers.each_mut().map(|buffer| &mut buffer[..]);
+        black_box(bank.play(sheet, buffers).expect("the sheet is played"));
+    }
+}
+
+/// A sheet through the wrapper beside the exported player, with the same bits.
+fn setting_wrapped(events: usize, frames: usize) {
+    let (sheet, blocks) = (sheet(events, frames, false), 4096 / frames);
+    let (mut world, mut bank, mut buffers) = (World::new(frames), Bank::new(33), silent(frames));
+    for (slot, (kind, ..)) in VOICES.into_iter().enumerate() {
+        let kind = if kind == 1 { Kind::String } else { Kind::Modal };
+        bank.open(slot, kind, 48000.0).expect("the opening is accepted");
+    }
+    let wrapped = wrapped(&sheet);
+    play(&mut world, &sheet, blocks);
+    play_wrapped(&mut bank, &wrapped, &mut buffers, blocks);
+    assert!(same(&world.buffers, &buffers), "the bits differ");
+    beside(
+        &format!("wrapped sheet of {events} events, blocks of {frames}"),
+        "the time of the exported player",
+        3,
+        || play(&mut world, black_box(&sheet), blocks),
+        || play_wrapped(&mut bank, black_box(&wrapped), &mut buffers, blocks),
+    );
+}
+
 /// Prints what one block costs by something that grows, in parts of the first one's cost, and how far a straight line is from it. All voices
 /// are sustained, since a struck one costs more or less a frame as it dies away.
 fn table(what: &str, sizes: &[usize], sheets: Vec<(Vec<Event>, usize)>) {
@@ -204,6 +248,9 @@ pub fn all() {
         if frames > 24 {
             setting(64, frames);
         }
+    }
+    for (events, frames) in [(8, 24), (8, 512), (64, 64)] {
+        setting_wrapped(events, frames);
     }
     let sizes = [8, 16, 24, 32, 40, 48, 56, 64];
     for frames in [64, 512] {
