@@ -145,16 +145,7 @@ pub extern "C" fn bleidhvan_render(
         aux,
     };
     let bad = crate::table::bad(bytes, lines);
-    let r = crate::voices::answered(
-        slow_subnormals,
-        bad,
-        bytes,
-        lines,
-        *word,
-        slot,
-        k,
-        &mut b,
-    );
+    let r = crate::voices::answered(slow_subnormals, bad, bytes, lines, *word, slot, k, &mut b);
     let counts = counts_of(r.answer);
     *word = r.word;
     *burst = counts.burst;
@@ -182,11 +173,14 @@ pub extern "C" fn bleidhvan_play(
       world = record { bytes = bytes.old; word = word.old; mem = lines.old };
       bufs = record { temp = temp.old; temp2 = temp_2.old; out = out.old; aux = aux.old };
       answers = answers.old;
-    }) sheet.now (result, record {
-      world = record { bytes = bytes.new; word = word.new; mem = lines.new };
-      bufs = record { temp = temp.new; temp2 = temp_2.new; out = out.new; aux = aux.new };
-      answers = answers.new;
-    }) }
+    }) sheet.now (
+      result,
+      record {
+        world = record { bytes = bytes.new; word = word.new; mem = lines.new };
+        bufs = record { temp = temp.new; temp2 = temp_2.new; out = out.new; aux = aux.new };
+        answers = answers.new;
+      },
+    ) }
 {
     let mut b = Buffers {
         temp,

@@ -46,13 +46,13 @@ before_end n e = ltb e.frame n
 unfoldable pub sheet_verdict : Bool → List Event → ℕ → Bufs → Result (Unit {0}) Reason
 sheet_verdict bad es answers b =
     first (
-      R.Memory ⇐ (bad || list_any bad_flag es || not (eqb answers 64))
-      ∷ R.Lengths ⇐ not (alike b)
-      ∷ R.TooLong ⇐ ltb 4096 (length b.temp)
-      ∷ R.TooMany ⇐ ltb 64 (length es)
-      ∷ R.OutOfOrder ⇐ not (rises 0 es)
-      ∷ R.PastEnd ⇐ not (list_all (before_end (length b.temp)) es)
-      ∷ []
+    R.Memory ⇐ (bad || list_any bad_flag es || not (eqb answers 64))
+    ∷ R.Lengths ⇐ not (alike b)
+    ∷ R.TooLong ⇐ ltb 4096 (length b.temp)
+    ∷ R.TooMany ⇐ ltb 64 (length es)
+    ∷ R.OutOfOrder ⇐ not (rises 0 es)
+    ∷ R.PastEnd ⇐ not (list_all (before_end (length b.temp)) es)
+    ∷ []
     )
 
 -- ---- the renders

@@ -188,11 +188,14 @@ pub fn play(
       world = record { bank = bank; word = word; mem = lines.old };
       bufs = held b.old;
       answers = answers.old;
-    }) ≡ (result.number, record {
-      world = record { bank = result.bank; word = result.word; mem = lines.new };
-      bufs = held b.new;
-      answers = answers.new;
-    }) }
+    }) ≡ (
+      result.number,
+      record {
+        world = record { bank = result.bank; word = result.word; mem = lines.new };
+        bufs = held b.new;
+        answers = answers.new;
+      },
+    ) }
     ensures given { result.number ≡ 0 → Each AreF32 sheet.now }
     ensures same { IsSame b.new b.old }
 {

@@ -97,10 +97,7 @@ pub fn check_sheet(bad: bool, sheet: &[Event], answers: usize, b: &Buffers) -> V
     ensures { result ≡ sheet_verdict bad sheet.now answers (held b.now) }
 {
     let n = b.temp.len();
-    refuse_if(
-        bad || bad_flags(sheet) || answers != 64,
-        Reason::Memory,
-    )?;
+    refuse_if(bad || bad_flags(sheet) || answers != 64, Reason::Memory)?;
     refuse_if(!alike(b.temp, b.temp_2, b.out, b.aux), Reason::Lengths)?;
     refuse_if(n > 4096, Reason::TooLong)?;
     refuse_if(sheet.len() > 64, Reason::TooMany)?;

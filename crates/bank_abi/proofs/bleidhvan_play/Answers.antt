@@ -21,7 +21,7 @@ play_all-requires c =
     let n = length a.answers.now in
     let e : sheet_verdict c.bad-bad.result a.sheet.now n u ≡ Ok tt = sym c.check_sheet.ensures ∙ c.in-Ok.is in (
       ap (λ (k : ℕ). sheet_verdict false a.sheet.now k u) (ap length c.tell_all.ensures ∙ length-replicate n c.told_of.result)
-      ∙ good_bank c.bad-bad.result a.sheet.now n u e,
+          ∙ good_bank c.bad-bad.result a.sheet.now n u e,
       sym c.bad-bad.ensures ∙ (taken c.bad-bad.result a.sheet.now n u e).good,
     )
 

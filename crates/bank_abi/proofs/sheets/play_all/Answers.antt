@@ -41,10 +41,12 @@ loop-i-preserved c =
       world = record { bytes = r.new.bytes; word = r.result.word; mem = r.new.lines };
       bufs = record { temp = r.new.temp; temp2 = r.new.temp_2; out = r.new.out; aux = r.new.aux };
       answers = set l.answers l.i x;
-    } in
-    (both_again l.invariant.0 (search rules) (following c.args.sheet.now (length c.args.b.now.temp.now) _ (l.i + 1) c.until-to.ensures)
-    (subst (λ (x : Told). Turned s (cue_of l.i (event_at c.args.sheet.now l.i) c.until-to.result) (told x)) (sym c.told_of.ensures)
-    (r.ensures.turned l.i l.answers)) (search rules) (search rules) (search rules) (search rules) (search rules) r.ensures.given, search rules)
+    } in (
+      both_again l.invariant.0 (search rules) (following c.args.sheet.now (length c.args.b.now.temp.now) _ (l.i + 1) c.until-to.ensures)
+          (subst (λ (x : Told). Turned s (cue_of l.i (event_at c.args.sheet.now l.i) c.until-to.result) (told x)) (sym c.told_of.ensures)
+          (r.ensures.turned l.i l.answers)) (search rules) (search rules) (search rules) (search rules) (search rules) r.ensures.given,
+      search rules,
+    )
 
 pub returns-clause-turned : goal.returns-clause-turned
 returns-clause-turned c = both_done c.loop-i.invariant.0 (search rules)

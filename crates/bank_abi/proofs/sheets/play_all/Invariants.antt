@@ -7,10 +7,10 @@ use Rattle.bank_abi.proofs.sheets.play_all.Given as goal
 
 abbrev pub invariant-loop-i : goal.invariant-loop-i
 invariant-loop-i l = let s₀ : Playing Crossing = record {
-      world = record { bytes = l.fn.bytes; word = l.fn.word; mem = l.fn.lines };
-      bufs = held l.fn.b;
-      answers = l.fn.answers;
-    } in
+  world = record { bytes = l.fn.bytes; word = l.fn.word; mem = l.fn.lines };
+  bufs = held l.fn.b;
+  answers = l.fn.answers;
+} in
     let s : Playing Crossing = record {
       world = record { bytes = l.bytes; word = l.word; mem = l.lines };
       bufs = held l.b;

@@ -35,9 +35,11 @@ loop-i-preserved c =
       world = record { bank = r.result.bank; word = r.result.word; mem = r.new.lines };
       bufs = record { temp = r.new.temp; temp2 = r.new.temp_2; out = r.new.out; aux = r.new.aux };
       answers = set l.answers l.i x;
-    } in
-    (again bank_move l.invariant.0 (search rules) (following c.args.sheet.now (length c.args.b.now.temp.now) _ (l.i + 1) c.until-to.ensures) (r.ensures.turned l.i l.answers ∙ ap told (sym c.told_of.ensures)) (search rules) (search rules)
-    (search rules) (search rules) (search rules) r.ensures.given, search rules)
+    } in (
+      again bank_move l.invariant.0 (search rules) (following c.args.sheet.now (length c.args.b.now.temp.now) _ (l.i + 1) c.until-to.ensures) (r.ensures.turned l.i l.answers ∙ ap told (sym c.told_of.ensures)) (search rules) (search rules)
+          (search rules) (search rules) (search rules) r.ensures.given,
+      search rules,
+    )
 
 pub returns-clause-turned : goal.returns-clause-turned
 returns-clause-turned c = all_done bank_move c.loop-i.invariant.0 (search rules)

@@ -7,10 +7,10 @@ use Rattle.player.proofs.play.play_all.Given as goal
 
 abbrev pub invariant-loop-i : goal.invariant-loop-i
 invariant-loop-i l = let s₀ : Playing World = record {
-      world = record { bank = l.fn.bank; word = l.fn.word; mem = l.fn.lines };
-      bufs = held l.fn.b;
-      answers = l.fn.answers;
-    } in
+  world = record { bank = l.fn.bank; word = l.fn.word; mem = l.fn.lines };
+  bufs = held l.fn.b;
+  answers = l.fn.answers;
+} in
     let s : Playing World = record {
       world = record { bank = l.bank; word = l.word; mem = l.lines };
       bufs = held l.b;
