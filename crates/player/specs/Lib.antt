@@ -2,3 +2,4 @@
 pub mod Sheet
 pub mod Owners
 pub mod Play
+pub mod Values

@@ -1,0 +1,115 @@
+-- Values of the table of a whole sheet, each by computation. Assumes nothing.
+use Rattle.std.specs.Prelude.{◌≡◌, refl, Bool, true, false, List, [], ◌∷◌, ◌++◌, map, ℕ, replicate, Result, Ok, Err}
+use Rattle.ground.specs.F32.{c0}
+use Rattle.slots.specs.declared.answers.Reason.{Reason}
+use Rattle.slots.specs.Answers.{reason_number}
+use Rattle.slots.specs.Calls.{Bufs}
+use Rattle.slots.specs.Table.{first, alike}
+use Rattle.player.specs.declared.sheet.Event.{Event}
+use Rattle.player.specs.Sheet.{rises, until, cues_from, sheet_verdict, cues}
+use Rattle.player.specs.Owners.{no_event}
+
+-- a sheet of events on these frames, and one event with these flags
+abbrev on : List ℕ → List Event
+on fs = map (λ f. record no_event { frame = f }) fs
+
+abbrev flagged : ℕ → ℕ → List Event
+flagged trigger sustain = record no_event { trigger = trigger; sustain = sustain } ∷ []
+
+-- buffers of these lengths, and of one
+abbrev lens : ℕ → ℕ → ℕ → ℕ → Bufs
+lens temp temp2 out aux = record { temp = replicate temp c0; temp2 = replicate temp2 c0; out = replicate out c0; aux = replicate aux c0 }
+
+abbrev block : ℕ → Bufs
+block n = lens n n n n
+
+-- a sheet with its answers and buffers, and its number, which is 0 where it is played; `bad` is number 1 of bank and line memory
+pub record Row : Type 0 where
+  pub bad : Bool
+  pub sheet : List Event
+  pub answers : ℕ
+  pub bufs : Bufs
+  pub number : ℕ
+
+abbrev verdict_number : Result (Unit {0}) Reason → ℕ
+verdict_number (Ok u) = 0
+verdict_number (Err r) = reason_number r
+
+unfoldable pub given : Row → ℕ
+given r = verdict_number (sheet_verdict r.bad r.sheet r.answers r.bufs)
+
+-- a sheet for a block of 8 frames, with 64 answers
+abbrev row : List Event → ℕ → Row
+row es n = record { bad = false; sheet = es; answers = 64; bufs = block 8; number = n }
+
+abbrev lent : Bufs → List Event → ℕ → Row
+lent b es n = record { bad = false; sheet = es; answers = 64; bufs = b; number = n }
+
+-- number 1: bank or line memory, each flag at and past its last value, and other answers than 64
+abbrev ones : List Row
+ones =
+    record (row [] 1) { bad = true }
+    ∷ row (flagged 1 1) 0
+    ∷ row (flagged 2 1) 1
+    ∷ row (flagged 1 2) 1
+    ∷ record (row [] 1) { answers = 63 }
+    ∷ record (row [] 0) { answers = 64 }
+    ∷ record (row [] 1) { answers = 65 }
+    ∷ record (row [] 1) { answers = 0 }
+    ∷ []
+
+-- 7 and 8, each length by itself and the longest block
+abbrev blocks : List Row
+blocks =
+    lent (lens 9 8 8 8) [] 7
+    ∷ lent (lens 8 9 8 8) [] 7
+    ∷ lent (lens 8 8 9 8) [] 7
+    ∷ lent (lens 8 8 8 9) [] 7
+    ∷ lent (block 4096) (on (4095 ∷ [])) 0
+    ∷ lent (block 4097) (on (4095 ∷ [])) 8
+    ∷ []
+
+-- 14: as many events as a sheet has, and one more
+abbrev many : List Row
+many = row (replicate 64 no_event) 0 ∷ row (replicate 65 no_event) 14 ∷ []
+
+-- 15: equal frames, one down, and down behind a rise
+abbrev orders : List Row
+orders = row (on (3 ∷ 3 ∷ [])) 0 ∷ row (on (3 ∷ 4 ∷ [])) 0 ∷ row (on (4 ∷ 3 ∷ [])) 15 ∷ row (on (0 ∷ 5 ∷ 4 ∷ [])) 15 ∷ []
+
+-- 16: the last frame, the block's end, and a block of no frames with an event and with none
+abbrev ends : List Row
+ends =
+    row (on (7 ∷ [])) 0
+    ∷ row (on (8 ∷ [])) 16
+    ∷ row (on (0 ∷ 9 ∷ [])) 16
+    ∷ lent (block 0) (on (0 ∷ [])) 16
+    ∷ lent (block 0) [] 0
+    ∷ []
+
+-- several at once: the first of them
+abbrev firsts : List Row
+firsts =
+    record { bad = true; sheet = flagged 2 0 ++ replicate 65 no_event; answers = 0; bufs = lens 4097 0 0 0; number = 1 }
+    ∷ lent (lens 4097 0 0 0) (replicate 65 no_event) 7
+    ∷ lent (block 4097) (replicate 65 no_event) 8
+    ∷ lent (block 0) (on (9 ∷ []) ++ replicate 64 no_event) 14
+    ∷ row (on (9 ∷ 8 ∷ [])) 15
+    ∷ row (on (9 ∷ 0 ∷ [])) 15
+    ∷ []
+
+abbrev pub rows : List Row
+rows = ones ++ blocks ++ many ++ orders ++ ends ++ firsts
+
+-- the table gives each row its number
+pub rows_value : map given rows ≡ map (λ r. r.number) rows
+unfolding given sheet_verdict first alike rises
+rows_value = refl
+
+-- the frames of four events in a block of 8: slot 1, slot 2, slot 1 twice on one frame
+abbrev four : List Event
+four = record no_event { slot = 1 } ∷ record no_event { frame = 2; slot = 2 } ∷ record no_event { frame = 5; slot = 1 } ∷ record no_event { frame = 5; slot = 1 } ∷ []
+
+pub four_value : map {B = ℕ × ℕ × ℕ × ℕ} (λ q. (q.place, q.slot, q.from, q.to)) (cues 8 four) ≡ (0, 1, 0, 5) ∷ (1, 2, 2, 8) ∷ (2, 1, 5, 5) ∷ (3, 1, 5, 8) ∷ []
+unfolding cues_from until
+four_value = refl
