@@ -1,8 +1,8 @@
 //! The command line.
 
-use crate::blocks::LONG;
-use crate::format::Format;
-use crate::settings::{Level, Settings};
+use crate::playing::{self, Playing};
+use crate::sounding::Sounding;
+use crate::words::{jobs, value, whole};
 use lexopt::{Arg, Parser};
 use std::ffi::{OsStr, OsString};
 use std::path::PathBuf;
@@ -10,6 +10,7 @@ use std::path::PathBuf;
 /// What the command line asks for.
 pub enum Command {
     Render(Box<Asked>),
+    Play(Box<Playing>),
     Verify(Verifying),
     Help,
     Version,
@@ -19,13 +20,12 @@ pub enum Command {
 pub struct Asked {
     pub sheet: PathBuf,
     pub folder: PathBuf,
-    pub settings: Settings,
-    is_flac: bool,
-    bits: Option<u32>,
-    is_gained: bool,
+    pub sounding: Sounding,
     pub jobs: usize,
     /// The line of the whole sheet that line 2 of this part of it is.
     pub first_line: usize,
+    /// The file in the folder that the page plays on top.
+    pub piece: Option<String>,
     pub is_forced: bool,
     pub is_quiet: bool,
 }
@@ -48,6 +48,7 @@ pub fn read(words: Vec<OsString>) -> Result<Command, String> {
         Some(Arg::Short('V') | Arg::Long("version")) => Ok(Command::Version),
         Some(Arg::Value(word)) => match word.to_str() {
             Some("render") => render(words),
+            Some("play") => playing::read(words),
             Some("verify") => verify(words),
             Some("help") => Ok(Command::Help),
             _ => Err(format!("'{}' is no command: {USAGE}", word.display())),
@@ -57,13 +58,13 @@ pub fn read(words: Vec<OsString>) -> Result<Command, String> {
 }
 
 /// A word behind a command: an option by its name, or what it is about.
-enum Word {
+pub enum Word {
     Option(String),
     Value(OsString),
 }
 
 /// The next word, none at the end; the help and the version where they are asked for.
-fn next(words: &mut Parser) -> Result<Option<Word>, Result<Command, String>> {
+pub fn next(words: &mut Parser) -> Result<Option<Word>, Result<Command, String>> {
     Ok(match words.next().map_err(|error| Err(wrong(&error)))? {
         None => None,
         Some(Arg::Short('h') | Arg::Long("help")) => return Err(Ok(Command::Help)),
@@ -90,7 +91,7 @@ fn render(mut words: Parser) -> Result<Command, String> {
     if asked.folder.as_os_str().is_empty() {
         return Err("no folder is named: write '-o DIR' behind the sheet".into());
     }
-    asked.settle()?;
+    asked.sounding.settle(false)?;
     Ok(Command::Render(Box::new(asked)))
 }
 
@@ -129,17 +130,13 @@ fn wrong(error: &lexopt::Error) -> String {
 
 impl Asked {
     fn new() -> Self {
-        let (format, level) = (Format::Float32, Level::Gain(0.0));
-        let (rate, longest) = (48000, LONG);
         Asked {
             sheet: PathBuf::new(),
             folder: PathBuf::new(),
-            settings: Settings { seed: 0, rate, format, aux: false, level, fade: 10.0, longest },
-            is_flac: false,
-            bits: None,
-            is_gained: false,
+            sounding: Sounding::new(),
             jobs: 1,
             first_line: 2,
+            piece: None,
             is_forced: false,
             is_quiet: false,
         }
@@ -155,105 +152,27 @@ impl Asked {
     }
 
     fn option(&mut self, option: &str, words: &mut Parser) -> Result<(), String> {
-        let settings = &mut self.settings;
         match option {
             "-o" | "--output" => self.folder = value(option, "DIR", words)?.into(),
-            "--seed" => settings.seed = whole(option, "33", words, 0, u32::MAX)?,
-            "--rate" => settings.rate = whole(option, "48000", words, 8000, 192000)?,
             "-j" | "--jobs" => self.jobs = jobs(option, words)?,
             "--first-line" => {
                 self.first_line = whole(option, "1002", words, 2, u32::MAX)? as usize;
             }
-            "--format" => self.is_flac = is_flac(&value(option, "wav", words)?)?,
-            "--bits" => self.bits = Some(bits(&value(option, "24", words)?)?),
-            "--gain" => {
-                settings.level = Level::Gain(number(option, "-6", words, -100.0, 100.0)?);
-                self.is_gained = true;
-            }
-            "--normalise" => settings.level = level(&value(option, "peak=-1", words)?)?,
-            "--fade" => settings.fade = number(option, "10", words, 0.0, 10000.0)?,
-            "--aux" => settings.aux = true,
+            "--piece" => self.piece = Some(piece(&value(option, "PIECE.wav", words)?)?),
             "--force" => self.is_forced = true,
             "-q" | "--quiet" => self.is_quiet = true,
-            _ => return Err(format!("{option} is no option: 'bleidhvan --help' lists them")),
-        }
-        if self.is_gained && !matches!(self.settings.level, Level::Gain(_)) {
-            return Err("--gain and --normalise do not go together: write one of them".into());
-        }
-        Ok(())
-    }
-
-    /// The format, by the options together.
-    fn settle(&mut self) -> Result<(), String> {
-        let bits = self.bits.unwrap_or(if self.is_flac { 24 } else { 32 });
-        let format = Format::of(self.is_flac, bits);
-        self.settings.format =
-            format.ok_or("a FLAC file holds whole samples: write --bits 24 or --bits 16")?;
-        let rate = self.settings.rate;
-        if self.is_flac && rate > 65535 && !rate.is_multiple_of(10) {
-            return Err(format!(
-                "--rate is '{rate}', and in a FLAC file must be a multiple of 10 above 65535"
-            ));
+            _ => self.sounding.option(option, words)?,
         }
         Ok(())
     }
 }
 
-/// The value of an option, or an example of one.
-fn value(option: &str, example: &str, words: &mut Parser) -> Result<OsString, String> {
-    words.value().map_err(|_| format!("{option} needs a value: {option} {example}"))
-}
-
-fn jobs(option: &str, words: &mut Parser) -> Result<usize, String> {
-    Ok(whole(option, "4", words, 1, 256)? as usize)
-}
-
-fn whole(
-    option: &str,
-    example: &str,
-    words: &mut Parser,
-    low: u32,
-    high: u32,
-) -> Result<u32, String> {
-    let value = value(option, example, words)?;
-    let number = value.to_str().and_then(|text| text.parse().ok());
-    let number = number.filter(|n| (low..=high).contains(n));
+/// The name of a file that lies in the folder.
+fn piece(value: &OsStr) -> Result<String, String> {
+    let name = value.to_str().filter(|name| !name.is_empty() && !name.contains('/'));
     let text = value.display();
-    number.ok_or(format!("{option} is '{text}', and must be a whole number from {low} to {high}"))
-}
-
-fn number(
-    option: &str,
-    example: &str,
-    words: &mut Parser,
-    low: f64,
-    high: f64,
-) -> Result<f64, String> {
-    let value = value(option, example, words)?;
-    let number = value.to_str().and_then(|text| text.parse().ok());
-    let number = number.filter(|n| (low..=high).contains(n));
-    let text = value.display();
-    number.ok_or(format!("{option} is '{text}', and must be a number from {low} to {high}"))
-}
-
-fn is_flac(value: &OsStr) -> Result<bool, String> {
-    match value.to_str() {
-        Some("wav") => Ok(false),
-        Some("flac") => Ok(true),
-        _ => Err(format!("--format is '{}', and must be wav or flac", value.display())),
-    }
-}
-
-fn bits(value: &OsStr) -> Result<u32, String> {
-    let bits = value.to_str().and_then(|text| text.parse().ok());
-    let bits = bits.filter(|bits| [32, 24, 16].contains(bits));
-    bits.ok_or(format!("--bits is '{}', and must be 32, 24 or 16", value.display()))
-}
-
-fn level(value: &OsStr) -> Result<Level, String> {
-    value.to_str().and_then(Level::read).ok_or(format!(
-        "--normalise is '{}', and must be peak=DB or loudness=LUFS from -100 to 0, as peak=-1",
-        value.display()
+    name.map(str::to_string).ok_or(format!(
+        "--piece is '{text}', and must be the name of a sound file in DIR, as piece.wav"
     ))
 }
 
@@ -282,7 +201,11 @@ mod tests {
         for way in ways {
             let asked = asked(way).expect(way);
             assert_eq!([&asked.sheet, &asked.folder], [Path::new("a.csv"), Path::new("b")]);
-            assert_eq!((asked.settings.seed, asked.jobs, asked.is_quiet), (7, 3, true), "{way}");
+            assert_eq!(
+                (asked.sounding.settings.seed, asked.jobs, asked.is_quiet),
+                (7, 3, true),
+                "{way}"
+            );
         }
         assert_eq!(asked("render - -o b").expect("a render").sheet, Path::new("-"));
     }
@@ -304,7 +227,8 @@ mod tests {
             ("verify a b", "'b' is one folder too many"),
             ("verify a --force", "--force is no option of verify"),
             ("--seed 3 render", "write 'bleidhvan render SHEET -o DIR'"),
-            ("play", "'play' is no command: write"),
+            ("sing", "'sing' is no command: write"),
+            ("render a.csv -o b --piece c/d.wav", "--piece is 'c/d.wav', and must be the name of"),
         ];
         for (words, message) in cases {
             let error = asked(words).err().expect(words);

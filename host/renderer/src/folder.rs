@@ -74,7 +74,8 @@ impl Folder {
         piece::files(ordered).try_for_each(|name| self.look_at(&name, piece::is_ours))
     }
 
-    fn look_at(&self, name: &str, is_ours: fn(&[u8]) -> bool) -> Result<(), String> {
+    /// Looks that a file of this name is not written over what no run wrote.
+    pub fn look_at(&self, name: &str, is_ours: fn(&[u8]) -> bool) -> Result<(), String> {
         let path = self.file(name);
         let shown = path.display();
         if self.is_sheet(&path) {

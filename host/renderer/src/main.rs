@@ -1,7 +1,8 @@
-//! Renders sheets of notes.
+//! Renders sheets of notes, and plays scores.
 
 #![deny(unsafe_code)]
 
+mod answers;
 mod blocks;
 mod catalogue;
 #[cfg(test)]
@@ -9,6 +10,7 @@ mod chance;
 mod checksum;
 mod claim;
 mod command;
+mod cut;
 mod data;
 mod deflate;
 mod folder;
@@ -28,27 +30,39 @@ mod output;
 mod page;
 mod pages;
 mod part;
+mod performance;
 mod piece;
 mod pitch;
+mod place;
+mod play;
+mod player;
+mod playing;
 mod png;
 mod progress;
+#[cfg(test)]
+mod random_scores;
 #[cfg(test)]
 mod random_sheets;
 mod render;
 mod report;
 mod room;
 mod run;
+mod score;
 mod settings;
 mod sfz;
 mod shape;
 mod sheet;
 mod sndfile;
+mod sounding;
 mod spectrum;
 mod stop;
+mod tail;
 #[cfg(test)]
 mod tests;
+mod time;
 mod verify;
 mod wave;
+mod words;
 mod work;
 
 use command::{Asked, Command};
@@ -78,6 +92,7 @@ fn main() -> ExitCode {
     }
     let status = command::read(words).and_then(|command| match command {
         Command::Render(asked) => render_sheet(&asked),
+        Command::Play(asked) => play::play(&asked, &listen()?),
         Command::Verify(asked) => {
             let stop = listen()?;
             let is_whole = verify::verify(&asked, &stop)?;
@@ -115,15 +130,15 @@ fn render_sheet(asked: &Asked) -> Result<u8, String> {
     let stop = listen()?;
     let unwritable = |error| unwritten(&asked.folder, &error);
     let known = folder.known().map_err(unwritable)?;
-    let (settings, is_forced) = (&asked.settings, asked.is_forced);
+    let (settings, is_forced) = (&asked.sounding.settings, asked.is_forced);
     // A job more than there are notes would have nothing to do.
     let jobs = asked.jobs.min(ordered);
     let (folder, known, stop) = (&folder, &known, &stop);
     let run = Run { folder, known, settings, ordered, jobs, stop, is_forced };
-    let progress = Progress::new(asked.is_quiet, ordered);
+    let progress = Progress::new(asked.is_quiet, ordered, "notes");
     let done = run.run(sheet.part_from(asked.first_line), |order| {
         let outcome = run.play(order);
-        progress.note();
+        progress.one();
         outcome
     });
     progress.end();

@@ -3,30 +3,41 @@
 use std::io::{self, IsTerminal, Write};
 use std::sync::atomic::{AtomicUsize, Ordering};
 
-/// How many notes of a sheet are through.
+/// How much of what was ordered is through: notes, or seconds.
 pub struct Progress {
     is_shown: bool,
     ordered: usize,
-    notes: AtomicUsize,
+    what: &'static str,
+    through: AtomicUsize,
 }
 
 const WIDTH: usize = 30;
 
 impl Progress {
-    pub fn new(is_quiet: bool, ordered: usize) -> Self {
+    pub fn new(is_quiet: bool, ordered: usize, what: &'static str) -> Self {
         let is_shown = !is_quiet && io::stderr().is_terminal();
-        Progress { is_shown, ordered, notes: AtomicUsize::new(0) }
+        Progress { is_shown, ordered, what, through: AtomicUsize::new(0) }
     }
 
-    /// A note more.
-    pub fn note(&self) {
-        let notes = self.notes.fetch_add(1, Ordering::Relaxed) + 1;
+    /// One more is through.
+    pub fn one(&self) {
+        self.show(self.through.fetch_add(1, Ordering::Relaxed) + 1);
+    }
+
+    /// So many are through.
+    pub fn reach(&self, through: usize) {
+        if self.through.swap(through, Ordering::Relaxed) != through {
+            self.show(through);
+        }
+    }
+
+    fn show(&self, through: usize) {
         if self.is_shown {
-            let ordered = self.ordered;
-            let full = (notes * WIDTH / ordered.max(1)).min(WIDTH);
+            let Progress { ordered, what, .. } = *self;
+            let full = (through * WIDTH / ordered.max(1)).min(WIDTH);
             let bar = format!("{}{}", "#".repeat(full), ".".repeat(WIDTH - full));
             // A terminal that is gone stops no work.
-            drop(write!(io::stderr(), "\r[{bar}] {notes} of {ordered} notes"));
+            drop(write!(io::stderr(), "\r[{bar}] {through} of {ordered} {what}"));
         }
     }
 

@@ -144,7 +144,7 @@ impl Rendering<'_> {
         let cells: Vec<String> =
             self.order.row.cells.iter().map(|text| cell(text.trim())).collect();
         let comment = format!("{}; seed {}", cells.join(","), self.settings.seed);
-        let key = pitch::key(self.note.hertz);
+        let key = Some(pitch::key(self.note.hertz));
         Tags { title: self.order.name().into(), comment, key }
     }
 }

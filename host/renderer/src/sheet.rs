@@ -1,15 +1,18 @@
-//! A sheet of ordered notes: CSV in UTF-8 with a header, one line a note.
+//! A sheet of rows: CSV in UTF-8 with a header, one line a note or an event.
 
 use crate::lines::Lines;
 
 /// The columns that a sheet has, in any order.
-pub const COLUMNS: [&str; 9] =
+pub type Columns = [&'static str; 9];
+
+/// The columns of a sheet of notes.
+pub const COLUMNS: Columns =
     ["name", "kind", "note", "seconds", "play", "accent", "structure", "brightness", "damping"];
 
 /// The longest line that is read.
 const LONGEST: usize = 1 << 20;
 
-/// The cells of an ordered note, in the order of the columns, and its line; where the line cannot be read as a row, what is wrong.
+/// The cells of a row, in the order of the columns, and its line; where the line cannot be read as a row, what is wrong.
 #[derive(Debug, Clone, PartialEq)]
 pub struct Row {
     pub line: usize,
@@ -30,33 +33,38 @@ pub struct Sheet<'a> {
 }
 
 impl<'a> Sheet<'a> {
-    /// Reads the header, or says what is wrong with it.
+    /// Reads the header of a sheet of notes, or says what is wrong with it.
     pub fn new(text: &'a [u8]) -> Result<Self, String> {
+        Sheet::of(text, COLUMNS)
+    }
+
+    /// Reads the header of a sheet with these columns, or says what is wrong with it.
+    pub fn of(text: &'a [u8], columns: Columns) -> Result<Self, String> {
         if let Some(what) = no_csv(text) {
-            return Err(format!("{what}: save as CSV (UTF-8), and render that"));
+            return Err(format!("{what}: save as CSV (UTF-8), and name that"));
         }
         let mut lines = Lines::new(text);
         let (number, line) = lines.next().ok_or_else(|| {
-            format!("the sheet is empty: its first line must be {}", COLUMNS.join(","))
+            format!("the sheet is empty: its first line must be {}", columns.join(","))
         })?;
         let separator = separator_of(line);
         let cells = cells(line, separator)
             .map_err(|(_, fault)| format!("line {number}, the header: {fault}"))?;
         let names: Vec<String> = cells.iter().map(|name| name.trim().to_lowercase()).collect();
-        let unknown = quoted(names.iter().filter(|name| !COLUMNS.contains(&&name[..])));
+        let unknown = quoted(names.iter().filter(|name| !columns.contains(&&name[..])));
         if !unknown.is_empty() {
-            let columns = COLUMNS.join(", ");
+            let columns = columns.join(", ");
             return Err(format!("unknown in the header: {unknown}; the columns are {columns}"));
         }
-        let missing = quoted(COLUMNS.iter().filter(|name| !names.iter().any(|n| n == *name)));
+        let missing = quoted(columns.iter().filter(|name| !names.iter().any(|n| n == *name)));
         if !missing.is_empty() {
             return Err(format!("missing in the header: {missing}"));
         }
-        if names.len() > COLUMNS.len() {
+        if names.len() > columns.len() {
             return Err("a column stands twice in the header".into());
         }
         let place = |column: &str| names.iter().position(|name| name == column).unwrap_or(0);
-        Ok(Sheet { lines, separator, places: COLUMNS.map(place), width: names.len(), before: 0 })
+        Ok(Sheet { lines, separator, places: columns.map(place), width: names.len(), before: 0 })
     }
 
     /// The sheet as a part of a whole one, in which its line 2 is that line.

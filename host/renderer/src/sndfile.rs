@@ -12,8 +12,8 @@ use std::ptr;
 pub struct Tags {
     pub title: String,
     pub comment: String,
-    /// The key that the note is, and the hundredths of a semitone that it is higher.
-    pub key: (u8, u8),
+    /// The key that a note is, and the hundredths of a semitone that it is higher; a piece has none.
+    pub key: Option<(u8, u8)>,
 }
 
 #[repr(C)]
@@ -240,20 +240,10 @@ impl Sound {
         if self.format.is_flac() {
             return Ok(());
         }
-        let (key, detune) = tags.key;
-        let no_loops = [[0; 4]; 16];
-        let mut instrument = Instrument {
-            gain: 1,
-            key,
-            detune,
-            velocities: [0, 127],
-            keys: [0, 127],
-            loops: 0,
-            no_loops,
-        };
-        let mut broadcast = broadcast(&tags.comment);
-        self.command(SET_INSTRUMENT, &mut instrument)?;
-        self.command(SET_BROADCAST, &mut broadcast)
+        if let Some(key) = tags.key {
+            self.command(SET_INSTRUMENT, &mut instrument(key))?;
+        }
+        self.command(SET_BROADCAST, &mut broadcast(&tags.comment))
     }
 
     fn command<T>(&mut self, command: c_int, data: &mut T) -> io::Result<()> {
@@ -330,6 +320,13 @@ impl Drop for Sound {
         // SAFETY: it came from a box, and the handle that shared it is closed.
         drop(unsafe { Box::from_raw(self.stream) });
     }
+}
+
+/// The instrument chunk of a key, which has no loop.
+fn instrument((key, detune): (u8, u8)) -> Instrument {
+    let no_loops = [[0; 4]; 16];
+    let (velocities, keys) = ([0, 127], [0, 127]);
+    Instrument { gain: 1, key, detune, velocities, keys, loops: 0, no_loops }
 }
 
 /// The broadcast chunk, without a date.
