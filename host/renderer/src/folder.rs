@@ -65,13 +65,19 @@ impl Folder {
 
     /// Looks that neither the catalogue nor a file of the page of so many notes is written over what no run wrote.
     pub fn look(&self, ordered: usize) -> Result<(), String> {
+        self.look_at_sheet()?;
+        self.look_at(catalogue::FILE, catalogue::is_ours)?;
+        self.look_at(sfz::FILE, sfz::is_ours)?;
+        piece::files(ordered).try_for_each(|name| self.look_at(&name, piece::is_ours))
+    }
+
+    /// Looks that the sheet is not taken for a part.
+    pub fn look_at_sheet(&self) -> Result<(), String> {
         let name = self.sheet.0.file_name().unwrap_or_default().to_string_lossy();
         if name.starts_with(PREFIX) {
             return Err(format!("the sheet's name begins with {PREFIX}, as parts do: rename it"));
         }
-        self.look_at(catalogue::FILE, catalogue::is_ours)?;
-        self.look_at(sfz::FILE, sfz::is_ours)?;
-        piece::files(ordered).try_for_each(|name| self.look_at(&name, piece::is_ours))
+        Ok(())
     }
 
     /// Looks that a file of this name is not written over what no run wrote.

@@ -24,6 +24,7 @@ impl Place {
         let folder = Folder::hold(parent.unwrap_or(Path::new(".")), (asked.score.clone(), read))?;
         let files: Vec<PathBuf> = [&asked.piece].into_iter().chain(&asked.aux).cloned().collect();
         let report = asked.piece.with_file_name(format!("{}.report.csv", name(&asked.piece)));
+        folder.look_at_sheet()?;
         folder.look_at(&name(&report), answers::is_ours)?;
         let known = known(&report);
         for path in &files {

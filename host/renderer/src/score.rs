@@ -35,7 +35,7 @@ pub struct Answered {
 /// What the rows of a score come to.
 pub struct Score {
     pub rows: Vec<Answered>,
-    /// What is played, in the order of time; what falls on one frame in the order of the sheet.
+    /// What is played, in the order of time; what falls on one frame in the order of the slots.
     pub cues: Vec<Cue>,
     /// What each slot is opened with.
     pub kinds: [Option<Kind>; SLOTS],
@@ -60,8 +60,8 @@ impl Score {
             rows.push(Answered { line: row.line, fault });
             asked.extend(cue);
         }
-        // A stable sort: rows of one time stay in the order of the sheet.
-        asked.sort_by_key(|(cue, _)| cue.frame);
+        // A stable sort: rows of one slot and one time stay in the order of the sheet, and how others are mixed with them changes nothing.
+        asked.sort_by_key(|(cue, _)| (cue.frame, cue.slot));
         let mut slots = Slots::new(reading.rate);
         let mut cues = Vec::new();
         for (cue, kind) in asked {

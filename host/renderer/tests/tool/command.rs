@@ -15,10 +15,12 @@ fn a_wrong_command_says_what_to_write() {
     fs::write(&file, "").expect("a file is written");
     let out = folder.path("notes");
     let missing = folder.path("missing.csv");
-    let cases: [(&[&dyn AsRef<std::ffi::OsStr>], &str); 14] = [
+    let cases: [(&[&dyn AsRef<std::ffi::OsStr>], &str); 16] = [
         (&[&"render", &sheet, &"-o", &""], "no folder is named: write '-o DIR' behind the sheet"),
         (&[&"render", &sheet, &"-o", &out, &"--quiet=1"], "--quiet takes no value"),
-        (&[&"play"], "'play' is no command: write 'bleidhvan render SHEET -o DIR'"),
+        (&[&"sing"], "'sing' is no command: write 'bleidhvan render SHEET -o DIR'"),
+        (&[&"play", &sheet, &"-o", &out], "notes', and must end in .wav or .flac"),
+        (&[&"play", &missing, &"-o", &"x.wav"], "missing.csv cannot be read: No such file"),
         (&[&"render"], "no sheet is named"),
         (&[&"render", &sheet], "no folder is named: write '-o DIR' behind the sheet"),
         (&[&"render", &sheet, &"-o"], "-o needs a value"),

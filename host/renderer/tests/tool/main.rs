@@ -5,6 +5,7 @@ mod disk;
 mod faults;
 mod folder;
 mod notes;
+mod play;
 mod run;
 mod sheets;
 mod sound;

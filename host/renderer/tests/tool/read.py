@@ -40,8 +40,9 @@ def wav(data):
     tags["bext"] = bext[:256].rstrip(b"\0").decode()
     tags["originator"] = bext[256:288].rstrip(b"\0").decode()
     tags["date"] = bext[320:338].rstrip(b"\0").decode()
-    key, fraction = struct.unpack("<II", found[b"smpl"][12:20])
-    tags["key"], tags["fraction"] = str(key), str(fraction)
+    if b"smpl" in found:
+        key, fraction = struct.unpack("<II", found[b"smpl"][12:20])
+        tags["key"], tags["fraction"] = str(key), str(fraction)
     tags["chunks"] = " ".join(name.decode().strip() for name in found)
     return [channels, rate, bits, len(body) // align], samples, tags
 
