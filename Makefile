@@ -1,4 +1,4 @@
-# make render: proves and builds what is not built yet, and renders the example sheet to the folder rendered.
+# make render: proves and builds what is not built yet, plays the example score and renders the example sheet to the folder rendered.
 # make install PREFIX=/usr/local: the tool, its man page and completions, and the header, library and pkg-config file for C; DESTDIR is put in front.
 # make test: the whole gate, whose last line is 'N passed, 0 failed'.
 # make bench: the speed of the leaves, of both voices, of the exported calls and of whole notes beside the Rust's, of the wrapper's guard beside none, and of sheets beside their renders, as ratios; PARTS="keyboard" times that alone.
@@ -25,7 +25,8 @@ ready:
 
 render: ready $(libraries)/libbank_abi.a
 	@host/cargo build --quiet --release -p renderer
-	@host/target/release/bleidhvan render examples/sheet.csv -o rendered --jobs "$$(nproc)"
+	@host/target/release/bleidhvan play examples/small-hours.csv -o "rendered/Small hours.wav" --title "Small hours" --tempo 66 --tail 6 --gain -6
+	@host/target/release/bleidhvan render examples/sheet.csv -o rendered --piece "Small hours.wav" --jobs "$$(nproc)"
 
 PREFIX := /usr/local
 root = $(DESTDIR)$(PREFIX)

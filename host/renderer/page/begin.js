@@ -31,6 +31,7 @@ function chosenAnew() {
 }
 
 function begin() {
+  takePiece();
   listenToPlayer();
   listenToControls();
   byId('sum').textContent = summed();

@@ -24,7 +24,7 @@ const KEYS = {
 
 // Whether the element that has the focus needs the key itself.
 function isTaken(target, key) {
-  if (target.matches('input:not([type=checkbox]), select')) return true;
+  if (target.matches('input:not([type=checkbox]), select, audio')) return true;
   return key === ' ' && target.matches('button, input, a');
 }
 

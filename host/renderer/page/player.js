@@ -3,6 +3,16 @@ const player = { note: null, isPlaying: false };
 
 const fileOf = (note) => encodeURIComponent(`${note.name}.${catalogue.head.ending}`);
 
+// The sound of the piece, where there is one.
+const piece = () => document.querySelector('#piece audio');
+
+// Takes the piece to the top; of it and a note the one that begins stops the other.
+function takePiece() {
+  if (!piece()) return;
+  byId('live').prepend(byId('piece'));
+  piece().addEventListener('play', stop);
+}
+
 // Selects a row, and plays it where the one before plays or where it is asked for.
 function select(index, isPlayed) {
   const note = catalogue.shown[index];
@@ -44,6 +54,7 @@ function start() {
   const { note } = player;
   if (!audio.hasAttribute('src')) audio.src = fileOf(note);
   player.isPlaying = true;
+  piece()?.pause();
   showState();
   audio.play().catch((error) => {
     // A play that another row or a stop cuts short is no fault.

@@ -162,6 +162,7 @@ mod tests {
             jobs: 2,
             stop: &stop,
             is_forced: false,
+            piece: None,
         };
         let (sum, _) = run.run(sheet, |order| run.play(order)).expect("the folder is written");
         assert_eq!(sum.rendered, rows.lines().count());

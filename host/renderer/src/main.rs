@@ -127,6 +127,7 @@ fn render_sheet(asked: &Asked) -> Result<u8, String> {
     }
     let folder = Folder::hold(&asked.folder, (asked.sheet.clone(), read))?;
     folder.look(ordered)?;
+    look_at_piece(asked, &folder)?;
     let stop = listen()?;
     let unwritable = |error| unwritten(&asked.folder, &error);
     let known = folder.known().map_err(unwritable)?;
@@ -134,7 +135,8 @@ fn render_sheet(asked: &Asked) -> Result<u8, String> {
     // A job more than there are notes would have nothing to do.
     let jobs = asked.jobs.min(ordered);
     let (folder, known, stop) = (&folder, &known, &stop);
-    let run = Run { folder, known, settings, ordered, jobs, stop, is_forced };
+    let piece = asked.piece.as_deref();
+    let run = Run { folder, known, settings, ordered, jobs, stop, is_forced, piece };
     let progress = Progress::new(asked.is_quiet, ordered, "notes");
     let done = run.run(sheet.part_from(asked.first_line), |order| {
         let outcome = run.play(order);
@@ -153,6 +155,16 @@ fn render_sheet(asked: &Asked) -> Result<u8, String> {
         (_, 1..) => REFUSED,
         _ => 0,
     })
+}
+
+/// Looks that the piece which the page plays is there.
+fn look_at_piece(asked: &Asked, folder: &Folder) -> Result<(), String> {
+    let Some(piece) = asked.piece.as_ref().map(|piece| folder.file(piece)) else { return Ok(()) };
+    let shown = piece.display();
+    if piece.is_file() {
+        return Ok(());
+    }
+    Err(format!("{shown} is not there: write 'bleidhvan play SCORE -o {shown}' before"))
 }
 
 /// Why a folder could not be written, and what to do.

@@ -58,7 +58,10 @@ const SUM: usize = 160;
 pub const SUM_AT: u64 = HEAD.len() as u64;
 
 /// The most bytes of a page without its rows.
-pub const FRAME: usize = HEAD.len() + SUM + 1500;
+pub const FRAME: usize = HEAD.len() + SUM + 1500 + PIECE;
+
+/// The most bytes of the player of a piece, whose name a file system holds to 255 bytes.
+const PIECE: usize = 200 + 255 * (6 + 6 + 3);
 
 /// The bytes that a note's row may have beyond one that was not rendered: its waveform and its player, or a reason.
 pub const MORE: usize = DRAWN * 10 + 1600;
@@ -78,8 +81,8 @@ pub fn summed(sum: &Sum) -> String {
     format!("{line:<SUM$}\n")
 }
 
-/// The beginning of a page, the first of which has the sum.
-pub fn begin(number: usize, pages: usize, ordered: usize) -> String {
+/// The beginning of a page, which has the piece; the first has the sum.
+pub fn begin(number: usize, pages: usize, ordered: usize, piece: Option<&str>) -> String {
     let (first, last) = ((number - 1) * ROWS + 1, (number * ROWS).min(ordered));
     let sum = if number == 1 { summed(&Sum::default()) } else { String::new() };
     let part = match pages {
@@ -87,7 +90,17 @@ pub fn begin(number: usize, pages: usize, ordered: usize) -> String {
         _ => format!("<p>Notes {first} to {last} of {ordered}.</p>\n{}", links(number, pages)),
     };
     format!(
-        "{HEAD}{sum}{part}<table>\n<thead><tr><th>Name<th>Sound<th>Waveform<th>Knobs</thead>\n<tbody>\n"
+        "{HEAD}{sum}{}{part}<table>\n<thead><tr><th>Name<th>Sound<th>Waveform<th>Knobs</thead>\n<tbody>\n",
+        piece.map_or(String::new(), player)
+    )
+}
+
+/// The player of a piece, with its title, which is its file's name.
+fn player(piece: &str) -> String {
+    let title = piece.rsplit_once('.').map_or(piece, |(title, _)| title);
+    let (title, file) = (escaped(title), escaped(&url(piece)));
+    format!(
+        "<section id=\"piece\" aria-label=\"Piece: {title}\"><b>{title}</b><audio controls preload=\"none\" src=\"{file}\"></audio></section>\n"
     )
 }
 

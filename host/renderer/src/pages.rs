@@ -7,7 +7,6 @@ use crate::page;
 use crate::part::{Part, Whole};
 use crate::piece::{self, Notes, PIECES, Piece};
 use crate::room::Room;
-use crate::settings::Settings;
 use std::fs::{self, File};
 use std::io::{self, Read, Write};
 
@@ -28,16 +27,11 @@ struct Series {
 }
 
 impl Pages {
-    /// Makes sure of the room of each file, for so many notes in all.
-    pub fn begin(
-        folder: &Folder,
-        room: &Room,
-        ordered: usize,
-        settings: &Settings,
-    ) -> io::Result<Self> {
-        let notes = Notes { ordered, settings: *settings };
+    /// Makes sure of the room of each file.
+    pub fn begin(folder: &Folder, room: &Room, notes: &Notes) -> io::Result<Self> {
         let series = PIECES.iter().zip(&room.pieces);
-        let series = series.map(|(piece, rooms)| Series::begin(folder, *piece, rooms, notes));
+        let series =
+            series.map(|(piece, rooms)| Series::begin(folder, *piece, rooms, notes.clone()));
         Ok(Pages { series: series.collect::<io::Result<_>>()? })
     }
 

@@ -19,10 +19,12 @@ pub enum Piece {
 pub const PIECES: [Piece; 4] = [Piece::List, Piece::Waves, Piece::Spectra, Piece::Page];
 
 /// What the notes of a sheet have in common.
-#[derive(Clone, Copy)]
+#[derive(Clone)]
 pub struct Notes {
     pub ordered: usize,
     pub settings: Settings,
+    /// The file of the piece that the page plays on top.
+    pub piece: Option<String>,
 }
 
 /// Whether a file that begins so is of this tool.
@@ -61,9 +63,12 @@ impl Piece {
 
     /// The beginning of a file.
     pub fn begin(self, number: usize, notes: &Notes) -> String {
-        let Notes { ordered, settings } = notes;
+        let Notes { ordered, settings, piece } = notes;
         match self {
-            Piece::Page => page::begin(number, ordered.div_ceil(page::ROWS), *ordered),
+            Piece::Page => {
+                let pages = ordered.div_ceil(page::ROWS);
+                page::begin(number, pages, *ordered, piece.as_deref())
+            }
             Piece::List => data::begin_list(page::ROWS, settings),
             Piece::Waves => data::begin("waves", number),
             Piece::Spectra => data::begin("spectra", number),

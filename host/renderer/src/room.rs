@@ -58,8 +58,6 @@ mod tests {
     use crate::wave::Wave;
     use std::io;
 
-    const NOTES: Notes = Notes { ordered: 100_000, settings: SETTINGS };
-
     /// A note whose every number is as long as it can be.
     fn long() -> Outcome {
         let (mut wave, mut chance) = (Wave::new(96_000), Chance(7));
@@ -102,6 +100,8 @@ mod tests {
                 "{name}.wav is there, and no run wrote it: move it away, or render with --force"
             ))
         };
+        let piece = Some("&".repeat(255));
+        let notes = Notes { ordered: 100_000, settings: SETTINGS, piece };
         let outcomes: [&dyn Fn() -> Outcome; 4] =
             [&long, &|| Outcome::unwritten(&error), &stopped, &way];
         for outcome in outcomes {
@@ -118,7 +118,7 @@ mod tests {
             }
             assert!((catalogue::HEADER.len() + 1 + lines) as u64 <= room.catalogue, "{lines}");
             for ((piece, rows), rooms) in PIECES.iter().zip(rows).zip(&room.pieces) {
-                let frame = piece.begin(399, &NOTES).len() + piece.end(399, &NOTES).len();
+                let frame = piece.begin(399, &notes).len() + piece.end(399, &notes).len();
                 let sum = page::summed(&Sum::default()).len();
                 assert!((frame + sum) as u64 <= piece.frame(), "{piece:?}: {frame}");
                 assert!(piece.frame() + rows <= rooms[0], "{piece:?}: {rows}");

@@ -9,6 +9,7 @@ use crate::order::{Order, Orders};
 use crate::outcome::{Outcome, Rendered, Sum};
 use crate::pages::Pages;
 use crate::part::Lines;
+use crate::piece::Notes;
 use crate::render::render;
 use crate::room::Room;
 use crate::settings::Settings;
@@ -30,6 +31,8 @@ pub struct Run<'a> {
     pub stop: &'a Stop,
     /// Whether nothing of earlier runs is kept.
     pub is_forced: bool,
+    /// The file in the folder that the page plays on top.
+    pub piece: Option<&'a str>,
 }
 
 /// What a run has written so far.
@@ -75,7 +78,9 @@ impl Run<'_> {
     ) -> io::Result<(Sum, Stale)> {
         let orders = || Orders::new(sheet.clone(), self.settings);
         let room = Room::of(orders(), self.settings);
-        let pages = Pages::begin(self.folder, &room, self.ordered, self.settings)?;
+        let piece = self.piece.map(str::to_string);
+        let notes = Notes { ordered: self.ordered, settings: *self.settings, piece };
+        let pages = Pages::begin(self.folder, &room, &notes)?;
         let catalogue = self.folder.file(catalogue::FILE);
         let mut journal = Lines::begin(&catalogue, room.catalogue, catalogue::HEADER)?;
         journal.leave();
@@ -162,6 +167,7 @@ mod tests {
             jobs,
             stop: &stop,
             is_forced: false,
+            piece: None,
         };
         let play = |order: &Order| {
             assert!(!order.name().starts_with("halt"), "here");
