@@ -21,6 +21,9 @@ TIME = "document.getElementById('audio').currentTime"
 NARROW = "document.documentElement.scrollWidth <= innerWidth"
 WIDE = "[...document.querySelectorAll('#live *')].filter(each => each.getBoundingClientRect().right > innerWidth).map(each => each.outerHTML.slice(0, 80))"
 PAUSED = "document.getElementById('audio').paused"
+PIECE = "Ende & <Anfang>.wav"
+SCORE = "time,slot,kind,note,play,accent,structure,brightness,damping\n0,0,modal,A3,trigger,0.5,0.4,0.5,0.8\n"
+SOUND = "document.querySelector('#piece audio')"
 
 
 def expect(holds, what):
@@ -33,10 +36,13 @@ def same(found, expected, what):
 
 
 def render(tool, folder):
-    """Renders the sheet in whole samples, so that a note clips."""
+    """Renders the sheet in whole samples, so that a note clips, beside a piece."""
+    (folder / "score.csv").write_text(SCORE)
+    play = [tool, "play", folder / "score.csv", "-o", folder / "notes" / PIECE, "--gain", "-12", "--quiet"]
+    same(subprocess.run(play).returncode, 0, "the exit status of a score")
     path = folder / "sheet.csv"
     path.write_text(sheet(NOTES))
-    command = [tool, "render", path, "-o", folder / "notes", "--bits", "16", "--gain", "-12", "--quiet"]
+    command = [tool, "render", path, "-o", folder / "notes", "--bits", "16", "--gain", "-12", "--piece", PIECE, "--quiet"]
     status = subprocess.run(command, stderr=subprocess.DEVNULL).returncode
     same(status, 1, "the exit status of a sheet with refused notes")
 
@@ -102,6 +108,21 @@ def plays(browser):
     browser.wait(PAUSED, "the player's button stops it")
     browser.run("const seek = document.getElementById('seek'); seek.value = 500; seek.dispatchEvent(new Event('input'))")
     browser.wait(f"Math.abs({TIME} - 1) < 0.05", "the slider goes to the middle")
+
+
+def piece(browser):
+    """The piece is on top with its title, and of it and a note the one that begins stops the other."""
+    same(browser.run("return document.querySelector('#piece b').textContent"), "Ende & <Anfang>", "the title of the piece")
+    same(browser.run("return document.getElementById('live').firstElementChild.id"), "piece", "what is on top")
+    browser.click(f"{ROW} .play button")
+    browser.wait(f"!{PAUSED} && {TIME} > 0.05", "a note plays")
+    browser.run(f"{SOUND}.play()")
+    browser.wait(f"{SOUND}.currentTime > 0.1 && {PAUSED}", "the piece plays, and the note stops")
+    same(browser.run(f"return {SOUND}.duration"), 4, "the seconds of the piece")
+    same(browser.run("return document.getElementById('play').textContent"), "Play", "the player's button beside the piece")
+    browser.click("#play")
+    browser.wait(f"!{PAUSED} && {SOUND}.paused", "a note plays, and the piece stops")
+    browser.click("#play")
 
 
 def keys(browser):
@@ -175,7 +196,7 @@ def without_script(browser, address):
     browser.open(address.replace("index", "index-3"))
     browser.scripts(True)
     rows = browser.run("return ['#still tbody tr', '#still audio'].map(of => document.querySelectorAll(of).length)")
-    same(rows, [NOTES - 500] * 2, "the rows and their players without a script")
+    same(rows, [NOTES - 500, NOTES - 499], "the rows and their players without a script, and that of the piece")
     same(browser.run("return document.getElementById('live').offsetHeight"), 0, "the height of what needs a script")
     same(browser.run(f"return {NARROW}"), True, "it does not scroll sideways")
 
@@ -195,7 +216,7 @@ def run(tool, folder):
         browser.open(address)
         browser.wait(f"{ROWS}.length > 0", "the rows")
         loaded = browser.run("return chunks.spectra.size")
-        for part in [searches, sorts, plays, keys, pictures, follows, fits]:
+        for part in [searches, sorts, plays, piece, keys, pictures, follows, fits]:
             part(browser)
         same(loaded, 0, "spectrograms that nobody asked for")
         same(browser.faults()[:3], [], "errors in the console")
