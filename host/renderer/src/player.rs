@@ -89,3 +89,44 @@ fn one_nan(samples: &mut [f32]) {
         }
     }
 }
+
+#[cfg(test)]
+mod tests {
+    use super::{Player, one_nan};
+    use crate::score::{Answered, Cue, Score};
+    use bleidhvan::{Kind, Knob, Knobs, Refusal};
+
+    fn cue(row: usize, frame: u64, slot: usize, accent: f32) -> Cue {
+        Cue { row, frame, slot, knobs: Knobs { trigger: true, accent, ..Knobs::default() } }
+    }
+
+    #[test]
+    fn a_row_whose_event_the_bank_refuses_is_told_and_the_others_sound() {
+        let cues = vec![cue(0, 0, 0, 0.5), cue(1, 30, 1, 2.0), cue(2, 60, 2, 0.5)];
+        let rows = (2..5).map(|line| Answered { line, fault: None }).collect();
+        let mut kinds = [None; 8];
+        kinds[..2].fill(Some(Kind::String));
+        let score = Score { rows, cues, kinds };
+        let mut player = Player::new(&score, (7, 48000), 480, 100).expect("they are opened");
+        let mut heard = Vec::new();
+        while let Some([out, _]) = player.next().expect("no block is refused") {
+            heard.extend_from_slice(out);
+        }
+        assert_eq!(heard.len(), 480);
+        assert!(heard.iter().any(|sample| *sample != 0.0));
+        let answers = player.answers();
+        assert_eq!(answers[0], Ok([100, 0, 240]));
+        assert_eq!(answers[1], Err(Refusal::OutOfRange { knob: Knob::Accent, value: 2.0 }));
+        // The slot was opened by none.
+        assert_eq!(answers[2], Err(Refusal::Empty { slot: 2 }));
+    }
+
+    #[test]
+    fn every_nan_has_the_same_bits_and_nothing_else_changes() {
+        let mut samples =
+            [0x7fc0_1234, 0xffc0_0000, 0x7f80_0000, 0x8000_0000, 1].map(f32::from_bits);
+        one_nan(&mut samples);
+        let bits = samples.map(f32::to_bits);
+        assert_eq!(bits, [0x7fc0_0000, 0x7fc0_0000, 0x7f80_0000, 0x8000_0000, 1]);
+    }
+}

@@ -179,6 +179,20 @@ fn two_runs_other_blocks_and_jobs_give_the_same_bytes() {
 }
 
 #[test]
+fn a_piece_that_grows_to_nan_is_the_same_in_all_blocks() {
+    let folder = Folder::new("nan");
+    let row = "0,0,string,238hz,trigger,1,0.24,1,1\n";
+    let options: &Words = &[&"--rate", &"8000", &"--tail", &"560", &"--fade", &"0"];
+    let pieces = ["24", "100", "4096"].map(|block| {
+        let (piece, (status, _, error)) =
+            play(&folder, block, row, &[options, &[&"--block", &block]].concat());
+        assert!(status == 0 && error.contains(" samples are no numbers: "), "{error}");
+        fs::read(piece).expect("it is read")
+    });
+    assert!(pieces[0] == pieces[1] && pieces[0] == pieces[2]);
+}
+
+#[test]
 fn rows_in_another_order_are_the_same_piece() {
     let folder = Folder::new("order");
     let (first, _) = play(&folder, "first", GOOD, &[]);
