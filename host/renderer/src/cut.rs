@@ -122,7 +122,8 @@ mod tests {
     use bleidhvan::Knobs;
 
     fn cue(row: usize, frame: u64, slot: usize) -> Cue {
-        let knobs = Knobs { trigger: row % 2 == 0, accent: row as f32, ..Knobs::default() };
+        let knobs =
+            Knobs { trigger: row.is_multiple_of(2), accent: row as f32, ..Knobs::default() };
         Cue { row, frame, slot, knobs }
     }
 

@@ -115,7 +115,7 @@ mod tests {
         assert_eq!(heard.len(), 480);
         assert!(heard.iter().any(|sample| *sample != 0.0));
         let answers = player.answers();
-        assert_eq!(answers[0], Ok([100, 0, 240]));
+        assert_eq!(answers[0], Ok([100, 0, 480]));
         assert_eq!(answers[1], Err(Refusal::OutOfRange { knob: Knob::Accent, value: 2.0 }));
         // The slot was opened by none.
         assert_eq!(answers[2], Err(Refusal::Empty { slot: 2 }));

@@ -115,3 +115,57 @@ fn a_full_disk_has_its_catalogue_and_fails_what_it_cannot_hold() {
         assert!(statuses.contains(&status), "{statuses:?}");
     }
 }
+
+/// Plays a piece of 0.9 megabytes to a disk of so many kilobytes, and again once there is room; gives the first run's exit status.
+fn played(folder: &Folder, kilobytes: usize) -> Option<i32> {
+    let score = folder.path("score.csv");
+    let rows = "0,0,modal,A3,trigger,0.5,0.3,0.5,0.5\n".repeat(40);
+    let header = "time,slot,kind,note,play,accent,structure,brightness,damping\n";
+    fs::write(&score, [header, &rows].concat()).expect("the score is written");
+    let out = folder.path(&format!("piece-{kilobytes}"));
+    let small = Small::mounted(out.clone(), kilobytes)?;
+    let piece = out.join("piece.wav");
+    let play = || said(&tool(&[&"play", &score, &"-o", &piece, &"--tail", &"4.7"]));
+    let (status, sum, error) = play();
+    let names = |out: &Path| files(out).into_keys().collect::<Vec<_>>();
+    match status {
+        2 => {
+            assert!(error.contains("piece.wav.report.csv has no room: make some"), "{error}");
+            assert_eq!(names(&out).len(), 0);
+        }
+        3 => {
+            assert!(sum.starts_with("40 events ordered = 0 played + 0 refused + 40 failed\n"));
+            assert!(error.contains("piece.wav cannot be written: No space left"), "{error}");
+            assert_eq!(names(&out), ["piece.wav.report.csv"]);
+            let report = fs::read_to_string(out.join("piece.wav.report.csv")).expect("it is read");
+            assert_eq!(report.matches(",failed,").count(), 40);
+        }
+        _ => assert_eq!((status, &error[..]), (0, "")),
+    }
+    assert!(small.mount("remount,size=20000k", "tmpfs"));
+    let (again, sum, error) = play();
+    assert_eq!((again, &error[..]), (0, ""), "{sum}");
+    assert_eq!(names(&out), ["piece.wav", "piece.wav.report.csv"]);
+    Some(status)
+}
+
+#[test]
+fn a_full_disk_has_the_report_of_a_piece_or_nothing() {
+    let folder = Folder::new("full piece");
+    let mut statuses = Vec::new();
+    for kilobytes in [12, 24, 40, 100, 500, 900, 1400] {
+        match played(&folder, kilobytes) {
+            Some(status) => statuses.push(status),
+            None => return,
+        }
+    }
+    assert!(
+        statuses
+            .is_sorted_by(|a, b| [2, 3, 0].iter().position(|s| s == a)
+                <= [2, 3, 0].iter().position(|s| s == b)),
+        "{statuses:?}"
+    );
+    for status in [0, 2, 3] {
+        assert!(statuses.contains(&status), "{statuses:?}");
+    }
+}
