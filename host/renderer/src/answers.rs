@@ -17,17 +17,17 @@ const FILE: usize = 20;
 
 /// The most bytes of a line that says what became of a row which is not refused, beside its cells, and of a file's line beside its
 /// name and what made it.
-pub const MORE: usize = 600;
+pub const MORE: usize = 1200;
 
 /// What became of a row.
-pub enum Outcome<'a> {
+pub enum Outcome {
     Played {
         frame: u64,
         words: Words,
     },
-    Refused(&'a Fault),
+    Refused(Fault),
     /// The machine could not do it.
-    Failed(&'a str),
+    Failed(String),
     /// The run was stopped.
     NotPlayed,
 }
@@ -93,10 +93,16 @@ impl Listed {
 
 #[cfg(test)]
 mod tests {
-    use super::{COLUMNS, FILE, HEADER, Outcome, is_ours, line, listed};
+    use super::{COLUMNS, FILE, HEADER, MORE, Outcome, file_line, is_ours, line, listed};
+    use crate::checksum::Summing;
+    use crate::levels::Told;
     use crate::note::Fault;
+    use crate::output::Heard;
+    use crate::part::Whole;
     use crate::score;
     use crate::sheet::{Row, split};
+    use crate::tests::Scratch;
+    use crate::wave::Wave;
 
     /// The first of a row's cells.
     const FIRST_CELL: usize = FILE - 9;
@@ -111,9 +117,12 @@ mod tests {
         let row = Row { line: 7, cells, fault: None };
         let fault = Fault::cell("time", "1,5", "a number, as 1.5");
         let played = Outcome::Played { frame: 3, words: [1, 2, 3] };
-        for outcome in
-            [played, Outcome::Refused(&fault), Outcome::Failed("full, and so"), Outcome::NotPlayed]
-        {
+        for outcome in [
+            played,
+            Outcome::Refused(fault),
+            Outcome::Failed("full, and so".into()),
+            Outcome::NotPlayed,
+        ] {
             let (cells, fault) = split(&line(&row, &outcome), ',');
             assert_eq!((cells.len(), fault), (COLUMNS, None));
             assert_eq!(
@@ -135,5 +144,35 @@ mod tests {
         assert_eq!(files.len(), 1);
         assert_eq!((&files[0].name[..], files[0].checksum.to_string()), ("a, b.wav", sum.into()));
         assert_eq!(files[0].line(), format!(",kept{rest}\"a, b.wav\",96,-1.00,,,made,{sum}"));
+    }
+
+    #[test]
+    fn no_line_takes_more_than_its_room() {
+        let cells = ["\"", "1", ",", "A3", "", "0", "0", "0", "0"].map(String::from);
+        let row = Row { line: usize::MAX, cells, fault: None };
+        let room = line(&row, &Outcome::NotPlayed).len() + MORE;
+        let most = u64::MAX;
+        let name = "\"".repeat(255);
+        let failed = format!("{name} cannot be written: {}", "\u{fffd}".repeat(81));
+        for outcome in [Outcome::Played { frame: most, words: [most; 3] }, Outcome::Failed(failed)]
+        {
+            assert!(line(&row, &outcome).len() <= room);
+        }
+        let scratch = Scratch::new("answers");
+        let (_, whole) = Whole::create(&scratch.0.join("part")).expect("it is made");
+        let heard = Heard {
+            whole,
+            checksum: Summing::default().end(),
+            told: Told {
+                peak: "-899.99".into(),
+                loudness: "-70.0".into(),
+                silent: "86399.999".into(),
+                warning: "w".repeat(160),
+            },
+            wave: Wave::new(1),
+        };
+        let made = "\"".repeat(400);
+        let line = file_line(&name, most, &heard, &made);
+        assert!(line.len() <= 2 * name.len() + made.len() + 2 * MORE, "{}", line.len());
     }
 }

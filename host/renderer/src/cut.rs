@@ -32,7 +32,8 @@ pub struct Cut<'a> {
 }
 
 impl<'a> Cut<'a> {
-    /// Cuts cues, in the order of frames and of slots, no more than a block's on one frame, and up to an end behind all of them, into blocks of at most so many frames, which are at least a short block's.
+    /// Cuts cues, which are in the order of frames and slots and no more on a frame than a block may have, up to an end behind all of
+    /// them, into blocks of at most so many frames, which are at least a short block's.
     pub fn new(cues: &'a [Cue], end: u64, most_frames: usize) -> Self {
         let sounding = [None; SLOTS];
         Cut { cues, through: 0, sounding, at: 0, end, most_frames, over: None }

@@ -13,7 +13,7 @@ use crate::place::{Place, name};
 use crate::player::Answer;
 use crate::playing::{Playing, Tail};
 use crate::report::{complain, list, say};
-use crate::score::{COLUMNS, Reading, Score};
+use crate::score::{Answered, COLUMNS, Reading, Score};
 use crate::settings::Settings;
 use crate::sheet::Sheet;
 use crate::stop::Stop;
@@ -41,7 +41,7 @@ pub fn play(asked: &Playing, stop: &Stop) -> Result<u8, String> {
     run.tell(&piece, &sum, ordered)?;
     Ok(match (&piece.ended, sum.refused) {
         (Ended::Stopped, _) => stop.status(),
-        (Ended::Failed(_), _) => crate::FAILED,
+        (Ended::Failed(..), _) => crate::FAILED,
         (_, 1..) => crate::REFUSED,
         _ => 0,
     })
@@ -53,7 +53,8 @@ enum Ended {
     Played(Vec<Answer>),
     /// No row is played.
     Nothing,
-    Failed(String),
+    /// This file could not be written.
+    Failed(PathBuf, io::Error),
     Stopped,
 }
 
@@ -111,7 +112,10 @@ impl Run<'_> {
     /// The most bytes that the report can come to.
     fn room(&self) -> u64 {
         let rows = self.sheet.clone().zip(&self.score.rows).map(|(row, answered)| {
-            let refused = answered.fault.as_ref().map(|fault| line(&row, &Outcome::Refused(fault)));
+            let refused = answered
+                .fault
+                .as_ref()
+                .map(|fault| line(&row, &Outcome::Refused((**fault).clone())));
             refused.map_or_else(|| line(&row, &Outcome::NotPlayed).len() + MORE, |line| line.len())
                 + 1
         });
@@ -123,7 +127,7 @@ impl Run<'_> {
 
     /// What made the files beside the score.
     fn made(&self) -> String {
-        let Settings { seed, rate, format, level, fade, .. } = self.asked.sounding.settings;
+        let Settings { seed, rate, format, level, fade, aux, .. } = self.asked.sounding.settings;
         let mut made = format!("seed={seed} rate={rate} format={format} {level} fade={fade}");
         if let Some(tempo) = self.asked.meter.tempo {
             write!(made, " tempo={tempo} beats={}", self.asked.meter.beats)
@@ -134,6 +138,14 @@ impl Run<'_> {
             Tail::Seconds(seconds) => {
                 write!(made, " tail={seconds}").expect("a string takes all");
             }
+        }
+        match (&self.asked.aux, aux) {
+            (Some(_), _) => made += " aux=file",
+            (None, true) => made += " aux=channel",
+            _ => (),
+        }
+        if !self.asked.title.is_empty() {
+            write!(made, " title='{}'", self.asked.title).expect("a string takes all");
         }
         format!("{made} {}", catalogue::version())
     }
@@ -149,9 +161,7 @@ impl Run<'_> {
         match performance.files(&paths, asked.is_quiet) {
             Ok(performed) => Ok(self.named(performed)),
             Err(Failure::Stopped) => without(Ended::Stopped),
-            Err(Failure::Unwritten(error)) => {
-                without(Ended::Failed(unwritable(&asked.piece, &error)))
-            }
+            Err(Failure::Unwritten(error)) => without(Ended::Failed(asked.piece.clone(), error)),
             Err(Failure::Refused(refusal)) => {
                 Err(format!("the bank refused a block: {refusal}; this is a fault of bleidhvan"))
             }
@@ -165,7 +175,7 @@ impl Run<'_> {
             let line = file_line(&name(path), frames, &heard, &self.made());
             match heard.whole.name() {
                 Ok(()) => piece.files.push(Named { name: name(path), line, told: heard.told }),
-                Err(error) => piece.ended = Ended::Failed(unwritable(path, &error)),
+                Err(error) => piece.ended = Ended::Failed(path.clone(), error),
             }
         }
         piece
@@ -179,25 +189,7 @@ impl Run<'_> {
         }
         let mut sum = Sum::default();
         for ((row, answered), cue) in self.sheet.clone().zip(&self.score.rows).zip(cues) {
-            let refused;
-            let outcome = match (&answered.fault, &piece.ended, cue) {
-                (Some(fault), ..) => Outcome::Refused(fault),
-                (None, Ended::Played(answers), Some(cue)) => match &answers[cue] {
-                    Ok(words) => {
-                        Outcome::Played { frame: self.score.cues[cue].frame, words: *words }
-                    }
-                    Err(refusal) => {
-                        refused = Fault {
-                            number: Some(refusal.number()),
-                            reason: refusal.to_string(),
-                            ..Fault::default()
-                        };
-                        Outcome::Refused(&refused)
-                    }
-                },
-                (None, Ended::Failed(reason), _) => Outcome::Failed(reason),
-                _ => Outcome::NotPlayed,
-            };
+            let outcome = self.outcome(answered, cue, &piece.ended);
             sum.add(answered.line, &outcome);
             report.line(&line(&row, &outcome))?;
         }
@@ -210,6 +202,24 @@ impl Run<'_> {
             }
         }
         Ok(sum)
+    }
+
+    /// What became of a row, whose cue has that place.
+    fn outcome(&self, answered: &Answered, cue: Option<usize>, ended: &Ended) -> Outcome {
+        match (&answered.fault, ended, cue) {
+            (Some(fault), ..) => Outcome::Refused((**fault).clone()),
+            (None, Ended::Played(answers), Some(cue)) => match &answers[cue] {
+                Ok(words) => Outcome::Played { frame: self.score.cues[cue].frame, words: *words },
+                Err(refusal) => {
+                    let (number, reason) = (Some(refusal.number()), refusal.to_string());
+                    Outcome::Refused(Fault { number, reason, ..Fault::default() })
+                }
+            },
+            (None, Ended::Failed(path, error), _) => {
+                Outcome::Failed(unwritable(Path::new(&name(path)), error))
+            }
+            _ => Outcome::NotPlayed,
+        }
     }
 
     /// Says what became of the rows, which must be as many as the lines that order them, and of the piece.
@@ -233,7 +243,7 @@ impl Run<'_> {
         match &piece.ended {
             Ended::Played(_) => (),
             Ended::Nothing => complain("no row can be played, so no piece is written"),
-            Ended::Failed(reason) => complain(reason),
+            Ended::Failed(path, error) => complain(&unwritable(path, error)),
             Ended::Stopped => {
                 complain("stopped: no piece is written, and the same command begins anew")
             }

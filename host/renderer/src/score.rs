@@ -251,3 +251,63 @@ impl Slots {
         events.map(of_slot).sum()
     }
 }
+
+#[cfg(test)]
+mod tests {
+    use super::{COLUMNS, Reading, Score};
+    use crate::note::Fault;
+    use crate::sheet::Sheet;
+    use crate::time::Meter;
+    use bleidhvan::Kind;
+
+    fn score(rows: &str) -> Score {
+        let text = format!("{}\n{rows}", COLUMNS.join(","));
+        let meter = Meter { tempo: None, beats: 4 };
+        let reading = Reading { rate: 48000, meter, frames: 480_000 };
+        Score::new(Sheet::of(text.as_bytes(), COLUMNS).expect("a header"), &reading)
+    }
+
+    fn reasons(score: &Score) -> Vec<String> {
+        let reason = |fault: &Option<Box<Fault>>| match fault {
+            Some(fault) => fault.reason.clone(),
+            None => String::new(),
+        };
+        score.rows.iter().map(|row| reason(&row.fault)).collect()
+    }
+
+    #[test]
+    fn the_first_row_in_time_opens_a_slot_and_a_refused_one_opens_none() {
+        let rows = "2,0,,A3,trigger,0,0,0,0\n1,0,modal,A3,trigger,0,0,0,0\n\
+            0,0,string,A3,trigger,2,0,0,0\n3,0,string,A3,,0,0,0,0\n4,1,,A3,,0,0,0,0\n";
+        let score = score(rows);
+        assert_eq!(score.kinds[..2], [Some(Kind::Modal), None]);
+        let order: Vec<usize> = score.cues.iter().map(|cue| cue.row).collect();
+        assert_eq!(order, [1, 0]);
+        let begins = [
+            "",
+            "",
+            "accent is '2', and must be 0 to 1",
+            "slot 0 is modal from its first row in time on: write modal or nothing",
+            "no row before it in time opens slot 1: write string or modal in kind",
+        ];
+        for (reason, begin) in reasons(&score).iter().zip(begins) {
+            assert!(reason.starts_with(begin) && reason.is_empty() == begin.is_empty(), "{reason}");
+        }
+    }
+
+    #[test]
+    fn rows_of_one_slot_and_time_stay_in_their_order() {
+        let row =
+            |accent: usize| format!("1,{},modal,A3,trigger,0.{accent},0,0,0\n", 7 - accent % 2);
+        let rows: String = (1..9).map(row).collect();
+        let order: Vec<usize> = score(&rows).cues.iter().map(|cue| cue.row).collect();
+        assert_eq!(order, [0, 2, 4, 6, 1, 3, 5, 7]);
+    }
+
+    #[test]
+    fn a_row_behind_what_the_file_holds_is_refused() {
+        let score = score("9.9999,0,modal,A3,,0,0,0,0\n10,0,modal,A3,,0,0,0,0\n");
+        assert_eq!(score.cues.len(), 1);
+        assert!(reasons(&score)[1].starts_with("the piece would be longer than a file"));
+    }
+}

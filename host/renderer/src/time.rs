@@ -19,7 +19,8 @@ pub fn frame(cell: &str, meter: &Meter, rate: u32) -> Result<u64, Fault> {
     let text = cell.trim();
     let seconds = match (text.split_once(':'), meter.tempo) {
         (Some(_), None) => {
-            let range = "a number of seconds: a bar and a beat need --tempo";
+            let range =
+                "a number of seconds: for a bar and a beat write --tempo too, as --tempo 72";
             return Err(Fault::cell("time", cell, range));
         }
         (Some((bar, beat)), Some(tempo)) => {
@@ -82,7 +83,7 @@ mod tests {
             assert_eq!(reason, expected);
         }
         let reason = frame("3:2", &SECONDS, 48000).unwrap_err().reason;
-        assert!(reason.ends_with("a bar and a beat need --tempo"), "{reason}");
+        assert!(reason.ends_with("write --tempo too, as --tempo 72"), "{reason}");
         for cell in ["0:1", "1:0.9", "1:4", "1:nan", "1:", ":1", "1:1:1", "1.5:1", "99999999:1"] {
             let reason = frame(cell, &WALTZ, 48000).unwrap_err().reason;
             assert!(reason.contains("such as 3:2.5, with beats from 1 to below 4"), "{reason}");

@@ -405,6 +405,33 @@ fn a_run_that_is_killed_is_in_the_way_of_none() {
     assert_eq!(names, ["piece.wav", "piece.wav.report.csv", "score.csv"]);
 }
 
+/// The peak of a piece by its report, in dBFS.
+fn peak(piece: &Path) -> f64 {
+    let lines = report(piece);
+    let cells = lines.last().expect("the piece's line").split(',');
+    cells.clone().nth(22).and_then(|peak| peak.parse().ok()).expect("a peak")
+}
+
+#[test]
+fn every_slot_of_the_example_is_heard_and_nothing_clips() {
+    let folder = Folder::new("example");
+    let example = Path::new(env!("CARGO_MANIFEST_DIR")).join("../../examples/small-hours.csv");
+    let text = fs::read_to_string(example).expect("the example is read");
+    let rows: Vec<&str> = text.lines().skip(1).filter(|line| !line.is_empty()).collect();
+    let options: &Words = &[&"--tempo", &"66", &"--gain", &"-6"];
+    let (piece, (status, sum, error)) = play(&folder, "all", &rows.join("\n"), options);
+    assert_eq!((status, &error[..]), (0, ""));
+    assert!(sum.starts_with(&format!("{0} events ordered = {0} played + 0 refused\n", rows.len())));
+    assert!((-6.0..0.0).contains(&peak(&piece)), "{}", peak(&piece));
+    for slot in 0..8 {
+        let is_of = |row: &&&str| row.split(',').nth(1) == Some(&slot.to_string());
+        let own: Vec<&str> = rows.iter().filter(is_of).copied().collect();
+        assert!(own.len() > 3, "slot {slot}");
+        let (piece, _) = play(&folder, &slot.to_string(), &own.join("\n"), options);
+        assert!(peak(&piece) > -20.0, "slot {slot}: {}", peak(&piece));
+    }
+}
+
 #[test]
 fn memory_grows_with_no_piece() {
     let folder = Folder::new("memory");
