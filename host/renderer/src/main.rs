@@ -57,6 +57,7 @@ mod sounding;
 mod spectrum;
 mod stop;
 mod tail;
+mod tally;
 #[cfg(test)]
 mod tests;
 mod time;

@@ -6,7 +6,6 @@ use crate::input;
 use crate::levels::Told;
 use crate::lines::counted;
 use crate::note::{Fault, clipped};
-use crate::outcome::TOLD;
 use crate::part::Lines;
 use crate::performance::{Failure, Performance, Performed};
 use crate::place::{Place, name};
@@ -17,6 +16,7 @@ use crate::score::{Answered, COLUMNS, Reading, Score};
 use crate::settings::Settings;
 use crate::sheet::Sheet;
 use crate::stop::Stop;
+use crate::tally::Tally;
 use std::fmt::Write;
 use std::io;
 use std::path::{Path, PathBuf};
@@ -37,9 +37,9 @@ pub fn play(asked: &Playing, stop: &Stop) -> Result<u8, String> {
     let reading = Reading { rate: settings.rate, meter: asked.meter, frames };
     let score = Score::new(sheet.clone(), &reading);
     let run = Run { asked, place, sheet, score, stop };
-    let (piece, sum) = run.run()?;
-    run.tell(&piece, &sum, ordered)?;
-    Ok(match (&piece.ended, sum.refused) {
+    let (piece, tally) = run.run()?;
+    run.tell(&piece, &tally, ordered)?;
+    Ok(match (&piece.ended, tally.refused) {
         (Ended::Stopped, _) => stop.status(),
         (Ended::Failed(..), _) => crate::FAILED,
         (_, 1..) => crate::REFUSED,
@@ -71,16 +71,6 @@ struct Named {
     told: Told,
 }
 
-/// How many rows there were of each outcome, and the first that were refused in words.
-#[derive(Default)]
-struct Sum {
-    played: usize,
-    refused: usize,
-    failed: usize,
-    not_played: usize,
-    told: Vec<String>,
-}
-
 struct Run<'a> {
     asked: &'a Playing,
     place: Place,
@@ -91,7 +81,7 @@ struct Run<'a> {
 
 impl Run<'_> {
     /// Plays the piece, and writes the report, whose room is made sure of before.
-    fn run(&self) -> Result<(Piece, Sum), String> {
+    fn run(&self) -> Result<(Piece, Tally), String> {
         let unwritten = |error: io::Error| match error.kind() {
             io::ErrorKind::StorageFull | io::ErrorKind::QuotaExceeded => {
                 format!(
@@ -104,9 +94,9 @@ impl Run<'_> {
         let report = Lines::begin(&self.place.report, self.room(), answers::HEADER);
         let mut report = report.map_err(unwritten)?;
         let piece = self.perform()?;
-        let sum = self.write(&piece, &mut report).map_err(unwritten)?;
+        let tally = self.write(&piece, &mut report).map_err(unwritten)?;
         report.close().and_then(|whole| whole.name()).map_err(unwritten)?;
-        Ok((piece, sum))
+        Ok((piece, tally))
     }
 
     /// The most bytes that the report can come to.
@@ -182,15 +172,15 @@ impl Run<'_> {
     }
 
     /// Writes every row's line, and those of the files, also of those that an earlier run wrote and that are left.
-    fn write(&self, piece: &Piece, report: &mut Lines) -> io::Result<Sum> {
+    fn write(&self, piece: &Piece, report: &mut Lines) -> io::Result<Tally> {
         let mut cues = vec![None; self.score.rows.len()];
         for (place, cue) in self.score.cues.iter().enumerate() {
             cues[cue.row] = Some(place);
         }
-        let mut sum = Sum::default();
+        let mut tally = Tally::default();
         for ((row, answered), cue) in self.sheet.clone().zip(&self.score.rows).zip(cues) {
             let outcome = self.outcome(answered, cue, &piece.ended);
-            sum.add(answered.line, &outcome);
+            tally.add(answered.line, &outcome);
             report.line(&line(&row, &outcome))?;
         }
         for named in &piece.files {
@@ -201,7 +191,7 @@ impl Run<'_> {
                 report.line(&known.line())?;
             }
         }
-        Ok(sum)
+        Ok(tally)
     }
 
     /// What became of a row, whose cue has that place.
@@ -223,16 +213,16 @@ impl Run<'_> {
     }
 
     /// Says what became of the rows, which must be as many as the lines that order them, and of the piece.
-    fn tell(&self, piece: &Piece, sum: &Sum, ordered: usize) -> Result<(), String> {
-        let text = sum.text(ordered);
-        if sum.played + sum.refused + sum.failed + sum.not_played != ordered {
+    fn tell(&self, piece: &Piece, tally: &Tally, ordered: usize) -> Result<(), String> {
+        let text = tally.text(ordered);
+        if !tally.is_whole(ordered) {
             return Err(format!(
                 "{ordered} lines order events, and of these were accounted for: {text}; this is a fault of bleidhvan"
             ));
         }
         let report = self.place.report.display();
         if !self.asked.is_quiet {
-            list(&sum.told, sum.refused - sum.told.len(), &format!("which {report} names"));
+            list(&tally.told, tally.refused - tally.told.len(), &format!("which {report} names"));
             self.warn(piece);
             say(&text);
             for Named { name, told, .. } in &piece.files {
@@ -266,33 +256,6 @@ impl Run<'_> {
             _ => format!(", {number} {unit}"),
         };
         format!("{seconds:.2} seconds{}{}", unit(peak, "dBFS"), unit(loudness, "LUFS"))
-    }
-}
-
-impl Sum {
-    fn add(&mut self, line: usize, outcome: &Outcome) {
-        match outcome {
-            Outcome::Played { .. } => self.played += 1,
-            Outcome::Refused(fault) => {
-                self.refused += 1;
-                if self.told.len() < TOLD {
-                    self.told.push(format!("refused: line {line}: {}", fault.reason));
-                }
-            }
-            Outcome::Failed(_) => self.failed += 1,
-            Outcome::NotPlayed => self.not_played += 1,
-        }
-    }
-
-    fn text(&self, ordered: usize) -> String {
-        let Sum { played, refused, failed, not_played, .. } = self;
-        let mut text = format!("{ordered} events ordered = {played} played + {refused} refused");
-        for (number, word) in [(failed, "failed"), (not_played, "not played")] {
-            if *number > 0 {
-                text += &format!(" + {number} {word}");
-            }
-        }
-        text
     }
 }
 
