@@ -161,6 +161,10 @@ impl Asked {
             "--piece" => self.piece = Some(piece(&value(option, "PIECE.wav", words)?)?),
             "--force" => self.is_forced = true,
             "-q" | "--quiet" => self.is_quiet = true,
+            "--aux-output" | "--title" | "--tempo" | "--beats" | "--tail" | "--block"
+            | "--again" => {
+                return Err(format!("{option} is no option of render"));
+            }
             _ => self.sounding.option(option, words)?,
         }
         Ok(())
@@ -223,6 +227,7 @@ mod tests {
             ("render a.csv -o b --normalise peak=3", "--normalise is 'peak=3', and must be"),
             ("render a.csv -o b --gain 3 --normalise peak=-1", "--gain and --normalise do not go"),
             ("render a.csv -o b --fade nan", "--fade is 'nan', and must be a number from 0"),
+            ("render a.csv -o b --tempo 72", "--tempo is no option of render"),
             ("verify", "no folder is named: write 'bleidhvan verify DIR'"),
             ("verify a b", "'b' is one folder too many"),
             ("verify a --force", "--force is no option of verify"),
