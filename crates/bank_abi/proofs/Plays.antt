@@ -166,7 +166,8 @@ module _ (s : Playing Crossing) (es : List Event) where
   sheet_played ts s' e et t =
       record {
         is = played_whole cross_move number_one es s ts s' e et t.is;
-        agrees = λ b. played_whole bank_move (bad (decode_bank s.world.bytes) s.world.mem) es (decoded_play s) ts (decoded_play s') (same_verdict b e) et t.agrees;
+        agrees = λ b. played_whole bank_move (bad (decode_bank s.world.bytes) s.world.mem) es (decoded_play s) ts (decoded_play s') (same_verdict b e) et
+            t.agrees;
         stays = λ b. (good_bank s'.world.bytes s'.world.mem t.good).bank;
         given = λ z. t.given;
       }

@@ -32,8 +32,8 @@ use Rattle.player.specs.Sheet.{AreF32, sheet_verdict, until, Cue, cue_of, cues_f
 use Rattle.player.specs.Play.{told, told_of, span, put_span, cue_call, Playing, turn, turns, play_by, play_def, bank_move}
 use Rattle.claims.specs.Ledger.{Led, fresh_led, Line, act_entry, line_by, line_of, ledger_from, ledger}
 use Rattle.claims.specs.Claim.{Account}
-use Rattle.claims.specs.Items.{Item, one, sheet, play_events, sheet_events, Made, made, run_items, end_items, all_events, calls_in, ItemLine, told_lines, sheet_line}
-use Rattle.claims.specs.Items.{item_line, slots_after, items_from, items_ledger, all_lines, all_calls, blank_act, blank, KeptItem, KeptItems, Demand3Items}
+use Rattle.claims.specs.Items.{Item, one, sheet, play_events, sheet_events, Made, made, run_items, end_items, all_events, calls_in, ItemLine, told_lines}
+use Rattle.claims.specs.Items.{sheet_line, item_line, slots_after, items_from, items_ledger, all_lines, all_calls, blank_act, blank, KeptItem, KeptItems, Demand3Items}
 use Rattle.claims.proofs.Acts.{SameSizes, same_sizes}
 use Rattle.claims.proofs.OneCall.{Inv, leds, not_bad, Step, step}
 use Rattle.player.proofs.Accepted.{taken}
@@ -102,7 +102,8 @@ ledger_append size (x ∷ xs) ys ls = ap (λ (r : List Line). line_of size ls x 
 
 -- it reads of the buffers their lengths alone
 module _ (size slot : ℕ) (ls : List Led) (k : Knobs) (b b' : Bufs) (s : SameSizes b b') where
-  verdict_sizes : (bad : Bool) (kind : ℕ) → verdict bad kind (record { slot = slot; act = render k b }) ≡ verdict bad kind (record { slot = slot; act = render k b' })
+  verdict_sizes : (bad : Bool) (kind : ℕ)
+      → verdict bad kind (record { slot = slot; act = render k b }) ≡ verdict bad kind (record { slot = slot; act = render k b' })
   unfolding verdict checks alike
   verdict_sizes bad kind = rw (s.temp, s.temp2, s.out, s.aux)
 
@@ -291,7 +292,8 @@ record Passed (size : ℕ) (w : World) (ls : List Led) (i : Item) (m : Made) (x 
   kept : KeptItem w i m
   next : Between size m.after (slots_after ls x.lines)
 
-one_passed : (w : World) (c : Call) → Inv w → F32Events (call_def w c ∷ []) → Passed 10240 w (leds w) (one c) (made w (one c)) (item_line 10240 (leds w) (one c))
+one_passed : (w : World) (c : Call) → Inv w → F32Events (call_def w c ∷ [])
+    → Passed 10240 w (leds w) (one c) (made w (one c)) (item_line 10240 (leds w) (one c))
 unfolding made item_line ledger_from slots_after
 one_passed w c v f =
     let t : Step w (leds w) c (call_def w c) (line_of 10240 (leds w) c) = step w v c (subst (λ (d : Call). InF32 d.act) (call_is w c) f.0) in
@@ -401,7 +403,8 @@ module _ (w : World) (es : List SheetEvent) (ts : List Told) (b : Bufs) where
 
   -- where both ask the table alike
   both_ask : (size : ℕ) (ls : List Led) (n : Bool) → bad w.bank w.mem ≡ n → not (eqb size 10240) ≡ n
-      → Passed size w ls (sheet es ts b) (sheet_made w es ts b (sheet_verdict n es (length ts) b)) (sheet_line (sheet_verdict n es (length ts) b) size ls es ts b)
+      → Passed size w ls (sheet es ts b) (sheet_made w es ts b (sheet_verdict n es (length ts) b))
+      (sheet_line (sheet_verdict n es (length ts) b) size ls es ts b)
       → Passed size w ls (sheet es ts b) (made w (sheet es ts b)) (item_line size ls (sheet es ts b))
   both_ask size ls n eb en p =
       let m : made w (sheet es ts b) ≡ sheet_made w es ts b (sheet_verdict n es (length ts) b) =
@@ -474,7 +477,8 @@ all_passed size (i ∷ is) w ls n f =
     let g = each_split (λ e. InF32 e.call.act) m.events (all_events ms) f in
     let p = item_passed size w ls i n g.0 in
     let r = all_passed size is m.after after p.next g.1 in
-    let cs : calls_in (m.events ++ all_events ms) ≡ calls_in m.events ++ calls_in (all_events ms) = map_append (λ (e : Event). e.call) m.events (all_events ms) in
+    let cs : calls_in (m.events ++ all_events ms) ≡ calls_in m.events ++ calls_in (all_events ms) =
+    map_append (λ (e : Event). e.call) m.events (all_events ms) in
     record {
       numbers = λ j. p.number j ∷ r.numbers j;
       answers = λ j. p.answers j ∷ r.answers j;

@@ -121,7 +121,8 @@ abbrev pub blank_act : Act → Act
 blank_act (opening kind rate) = opening kind rate
 blank_act reset = reset
 blank_act (render k b) =
-    render k (record { temp = replicate (length b.temp) c0; temp2 = replicate (length b.temp2) c0; out = replicate (length b.out) c0; aux = replicate (length b.aux) c0 })
+    let zeros = λ (xs : List Float). replicate (length xs) c0 in
+    render k (record { temp = zeros b.temp; temp2 = zeros b.temp2; out = zeros b.out; aux = zeros b.aux })
 
 abbrev pub blank : Call → Call
 blank c = record { slot = c.slot; act = blank_act c.act }

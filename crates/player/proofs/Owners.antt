@@ -2,7 +2,8 @@
 use mathlib.Core.Path.{◌≡◌, refl, sym, ap, ◌∙◌, subst}
 use mathlib.Core.Logic.{◌⊎◌, inl, inr}
 use Prim.Native.Nat.{ℕ, zero, suc, ◌+◌, ◌-◌, ◌≤◌, ◌<◌, suc-le-suc}
-use native.Mathlib.Nat.{le_refl, le_of_eq, le_of_lt, le_trans, le_antisymm, lt_of_lt_of_le, le_of_suc-le-suc, not-suc-le-zero, zero-lt-suc, zero-add, suc-add, add-zero, add-suc}
+use native.Mathlib.Nat.{le_refl, le_of_eq, le_of_lt, le_trans, le_antisymm, lt_of_lt_of_le, le_of_suc-le-suc, not-suc-le-zero}
+use native.Mathlib.Nat.{zero-lt-suc, zero-add, suc-add, add-zero, add-suc}
 use native.Mathlib.Decide.{dec_lt, ℕ_discrete}
 use native.Mathlib.Omega.{arith}
 use mathlib.Core.Bool.{Bool, true, false, cond}
@@ -234,7 +235,8 @@ module _ (n : ℕ) (es : List Event) (ok : Whole n es) where
       let g = follows n es ok i j l in
       let u : until n (event_at es i).slot (drop (suc i) es) ≤ (event_at es j).frame =
       subst (λ (e : Event). until n (event_at es i).slot (drop (suc i) es) ≤ e.frame) g
-      (end_most (drop (suc i) es) n (event_at es i).slot (event_at es i).frame (rest_rises es 0 i ok.order k) (j - suc i) (left n es ok i j l h) (ap (λ (e : Event). e.slot) g ∙ q)) in
+      (end_most (drop (suc i) es) n (event_at es i).slot (event_at es i).frame (rest_rises es 0 i ok.order k) (j - suc i)
+      (left n es ok i j l h) (ap (λ (e : Event). e.slot) g ∙ q)) in
       let p2 : (event_at es i).frame ≤ until n (event_at es i).slot (drop (suc i) es) = subst (λ (x : Cue). x.from ≤ x.to) r p in
       subst (λ (x : Cue). x.to ≡ x.from) (sym r) (le_antisymm (le_trans u (le_of_eq f)) p2)
 

@@ -108,7 +108,12 @@ rows_value = refl
 
 -- the frames of four events in a block of 8: slot 1, slot 2, slot 1 twice on one frame
 abbrev four : List Event
-four = record no_event { slot = 1 } ∷ record no_event { frame = 2; slot = 2 } ∷ record no_event { frame = 5; slot = 1 } ∷ record no_event { frame = 5; slot = 1 } ∷ []
+four =
+    record no_event { slot = 1 }
+    ∷ record no_event { frame = 2; slot = 2 }
+    ∷ record no_event { frame = 5; slot = 1 }
+    ∷ record no_event { frame = 5; slot = 1 }
+    ∷ []
 
 pub four_value : map {B = ℕ × ℕ × ℕ × ℕ} (λ q. (q.place, q.slot, q.from, q.to)) (cues 8 four) ≡ (0, 1, 0, 5) ∷ (1, 2, 2, 8) ∷ (2, 1, 5, 5) ∷ (3, 1, 5, 8) ∷ []
 unfolding cues_from until

@@ -16,7 +16,8 @@ play_all-requires c =
     let a = c.args in
     let n = length a.answers.now in
     let e : sheet_verdict c.bad-bad.result a.sheet.now n (held a.b.now) ≡ Ok tt = sym c.check_sheet.ensures ∙ c.in-Ok.is in
-    ap (λ (k : ℕ). sheet_verdict false a.sheet.now k (held a.b.now)) (ap length c.tell_all.ensures ∙ length-replicate n c.told_of.result) ∙ good_bank c.bad-bad.result a.sheet.now n (held a.b.now) e
+    ap (λ (k : ℕ). sheet_verdict false a.sheet.now k (held a.b.now)) (ap length c.tell_all.ensures ∙ length-replicate n c.told_of.result)
+    ∙ good_bank c.bad-bad.result a.sheet.now n (held a.b.now) e
 
 pub returns-in-Err-clause-left : goal.returns-in-Err-clause-left
 returns-in-Err-clause-left c =
@@ -36,5 +37,13 @@ returns-in-Ok-clause-left c =
     let e : sheet_verdict (bad a.bank a.lines.now) a.sheet.now n (held a.b.now) ≡ Ok tt =
     ap (λ (x : Bool). sheet_verdict x a.sheet.now n (held a.b.now)) (sym c.bad-bad.ensures) ∙ sym c.check_sheet.ensures ∙ c.in-Ok.is in
     let t = taken (bad a.bank a.lines.now) a.sheet.now n (held a.b.now) e in
-    played_whole bank_move (bad a.bank a.lines.now) a.sheet.now s _ _ e (c.tell_all.ensures ∙ ap (λ (k : ℕ). replicate k c.told_of.result) t.room ∙ ap (replicate 64) c.told_of.ensures) r.ensures.turned
-    ∙ λ i. (sym r.ensures.number i, record { world = record { bank = r.result.bank; word = r.result.word; mem = r.new.lines }; bufs = held r.new.b; answers = r.new.answers })
+    played_whole bank_move (bad a.bank a.lines.now) a.sheet.now s _ _ e
+    (c.tell_all.ensures ∙ ap (λ (k : ℕ). replicate k c.told_of.result) t.room ∙ ap (replicate 64) c.told_of.ensures) r.ensures.turned
+    ∙ λ i. (
+      sym r.ensures.number i,
+      record {
+        world = record { bank = r.result.bank; word = r.result.word; mem = r.new.lines };
+        bufs = held r.new.b;
+        answers = r.new.answers;
+      },
+    )

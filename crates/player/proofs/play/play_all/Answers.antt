@@ -18,7 +18,8 @@ pub render_in-r-requires : goal.render_in-r-requires
 render_in-r-requires c =
     let a = c.args in
     let t = taken false a.sheet.now _ (held a.b.now) c.requires in
-    let l = lies_now bank_move c.loop-i.invariant.0 t.whole (search rules) (following a.sheet.now (length a.b.now.temp.now) _ (c.loop-i.i + 1) c.until-to.ensures) in
+    let l = lies_now bank_move c.loop-i.invariant.0 t.whole (search rules)
+    (following a.sheet.now (length a.b.now.temp.now) _ (c.loop-i.i + 1) c.until-to.ensures) in
     (l.0, l.1, c.loop-i.invariant.0.alike)
 
 pub bounds-answers-i : goal.bounds-answers-i
@@ -36,7 +37,9 @@ loop-i-preserved c =
       bufs = record { temp = r.new.temp; temp2 = r.new.temp_2; out = r.new.out; aux = r.new.aux };
       answers = set l.answers l.i x;
     } in (
-      again bank_move l.invariant.0 (search rules) (following c.args.sheet.now (length c.args.b.now.temp.now) _ (l.i + 1) c.until-to.ensures) (r.ensures.turned l.i l.answers ∙ ap told (sym c.told_of.ensures)) (search rules) (search rules)
+      again bank_move l.invariant.0 (search rules)
+          (following c.args.sheet.now (length c.args.b.now.temp.now) _ (l.i + 1) c.until-to.ensures)
+          (r.ensures.turned l.i l.answers ∙ ap told (sym c.told_of.ensures)) (search rules) (search rules)
           (search rules) (search rules) (search rules) r.ensures.given,
       search rules,
     )

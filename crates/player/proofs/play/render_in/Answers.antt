@@ -12,4 +12,5 @@ unfolding part put
 returns-clause-turned c place ts =
     let a = c.args in
     let b : Bufs = record { temp = a.temp.now; temp2 = a.temp_2.now; out = a.out.now; aux = a.aux.now } in
-    turned bank_move (record { bank = a.bank; word = a.word; mem = a.lines.now }) (cue_of place a.e a.to) b ts c.knobs_of.result _ c.knobs_of.ensures (ap moved_of c.render_into.ensures.left)
+    turned bank_move (record { bank = a.bank; word = a.word; mem = a.lines.now }) (cue_of place a.e a.to) b ts
+    c.knobs_of.result _ c.knobs_of.ensures (ap moved_of c.render_into.ensures.left)
