@@ -52,6 +52,7 @@ ones =
     ∷ row (flagged 1 1) 0
     ∷ row (flagged 2 1) 1
     ∷ row (flagged 1 2) 1
+    ∷ row (no_event ∷ flagged 0 2) 1
     ∷ record (row [] 1) { answers = 63 }
     ∷ record (row [] 0) { answers = 64 }
     ∷ record (row [] 1) { answers = 65 }
@@ -73,9 +74,15 @@ blocks =
 abbrev many : List Row
 many = row (replicate 64 no_event) 0 ∷ row (replicate 65 no_event) 14 ∷ []
 
--- 15: equal frames, one down, and down behind a rise
+-- 15: equal frames, one down, down behind a rise, and down from one slot to another
 abbrev orders : List Row
-orders = row (on (3 ∷ 3 ∷ [])) 0 ∷ row (on (3 ∷ 4 ∷ [])) 0 ∷ row (on (4 ∷ 3 ∷ [])) 15 ∷ row (on (0 ∷ 5 ∷ 4 ∷ [])) 15 ∷ []
+orders =
+    row (on (3 ∷ 3 ∷ [])) 0
+    ∷ row (on (3 ∷ 4 ∷ [])) 0
+    ∷ row (on (4 ∷ 3 ∷ [])) 15
+    ∷ row (on (0 ∷ 5 ∷ 4 ∷ [])) 15
+    ∷ row (record no_event { frame = 4; slot = 1 } ∷ record no_event { frame = 3; slot = 2 } ∷ []) 15
+    ∷ []
 
 -- 16: the last frame, the block's end, and a block of no frames with an event and with none
 abbrev ends : List Row
@@ -91,6 +98,8 @@ ends =
 abbrev firsts : List Row
 firsts =
     record { bad = true; sheet = flagged 2 0 ++ replicate 65 no_event; answers = 0; bufs = lens 4097 0 0 0; number = 1 }
+    ∷ lent (lens 4097 0 0 0) (flagged 2 0) 1
+    ∷ row (replicate 65 no_event ++ flagged 2 0) 1
     ∷ lent (lens 4097 0 0 0) (replicate 65 no_event) 7
     ∷ lent (block 4097) (replicate 65 no_event) 8
     ∷ lent (block 0) (on (9 ∷ []) ++ replicate 64 no_event) 14
