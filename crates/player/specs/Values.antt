@@ -1,13 +1,18 @@
--- Values of the table of a whole sheet, each by computation. Assumes nothing.
-use Rattle.std.specs.Prelude.{◌≡◌, refl, Bool, true, false, List, [], ◌∷◌, ◌++◌, map, ℕ, replicate, Result, Ok, Err}
+-- Values of the table of a whole sheet, of an event's knobs and of its answer, each by computation. Assumes nothing.
+use Rattle.std.specs.Prelude.{◌≡◌, refl, Bool, true, false, List, [], ◌∷◌, ◌++◌, map, ℕ, replicate, Float, Result, Ok, Err}
+use Rattle.std.specs.Float.{binary32}
+use Rattle.std.specs.Float.Ieee.{of_bits}
 use Rattle.ground.specs.F32.{c0}
+use Rattle.noise.specs.declared.excitation.Knobs.{Knobs}
 use Rattle.slots.specs.declared.answers.Reason.{Reason}
-use Rattle.slots.specs.Answers.{reason_number}
+use Rattle.slots.specs.declared.answers.Reason.TheVariants as R
+use Rattle.slots.specs.Answers.{no_counts, reason_number}
 use Rattle.slots.specs.Calls.{Bufs}
 use Rattle.slots.specs.Table.{first, alike}
 use Rattle.player.specs.declared.sheet.Event.{Event}
-use Rattle.player.specs.Sheet.{rises, until, cues_from, sheet_verdict, cues}
+use Rattle.player.specs.Sheet.{knobs_of, rises, until, cues_from, sheet_verdict, cues}
 use Rattle.player.specs.Owners.{no_event}
+use Rattle.player.specs.Play.{told, told_of, refused_answers}
 
 -- a sheet of events on these frames, and one event with these flags
 abbrev on : List ℕ → List Event
@@ -127,3 +132,47 @@ four =
 pub four_value : map {B = ℕ × ℕ × ℕ × ℕ} (λ q. (q.place, q.slot, q.from, q.to)) (cues 8 four) ≡ (0, 1, 0, 5) ∷ (1, 2, 2, 8) ∷ (2, 1, 5, 5) ∷ (3, 1, 5, 8) ∷ []
 unfolding cues_from until
 four_value = refl
+
+-- ---- an event's knobs, and its answer
+
+abbrev f32 : ℕ → Float
+f32 w = of_bits binary32 w
+
+-- struck and not sustained, with a number of its own for each knob: 0.125, 0.25, 0.5, 0.75 and 1
+abbrev struck : Event
+struck =
+    record no_event {
+      trigger = 1;
+      f0 = f32 0x3e000000;
+      accent = f32 0x3e800000;
+      structure = f32 0x3f000000;
+      brightness = f32 0x3f400000;
+      damping = f32 0x3f800000;
+    }
+
+pub knobs_value : knobs_of struck
+    ≡ record {
+      sustain = false;
+      trigger = true;
+      accent = f32 0x3e800000;
+      f0 = f32 0x3e000000;
+      structure = f32 0x3f000000;
+      brightness = f32 0x3f400000;
+      damping = f32 0x3f800000;
+    }
+knobs_value = refl
+
+abbrev bowed : Knobs
+bowed = knobs_of (record no_event { sustain = 1 })
+
+pub sustained_value : bowed.sustain ∷ bowed.trigger ∷ [] ≡ true ∷ false ∷ []
+sustained_value = refl
+
+pub told_value : map told_of (Ok (record { burst = 1; dust = 2; dispersion = 3 }) ∷ Err R.Empty ∷ [])
+    ≡ record { number = 0; burst = 1; dust = 2; dispersion = 3 } ∷ record { number = 5; burst = 0; dust = 0; dispersion = 0 } ∷ []
+told_value = refl
+
+-- a sheet refused whole tells its number in 64 answers, and leaves others
+pub refused_value : map (λ n. refused_answers R.TooMany (replicate n (told 0 no_counts))) (64 ∷ 2 ∷ [])
+    ≡ replicate 64 (told 14 no_counts) ∷ replicate 2 (told 0 no_counts) ∷ []
+refused_value = refl

@@ -2,8 +2,8 @@
 
 use std::hint::black_box;
 
-use bleidhvan::raw::{self, LINES, exported};
-use bleidhvan::{Counts, Knobs, slow_subnormals};
+use bleidhvan::raw::{self, LINES};
+use bleidhvan::{Knobs, slow_subnormals};
 
 use crate::buffers::{Buffers, Setting, same, silent};
 use crate::ratio::beside;
@@ -46,38 +46,10 @@ fn guarded(world: &mut World, knobs: &Knobs, slow: bool) -> u32 {
 
 #[inline(never)]
 fn unguarded(world: &mut World, knobs: &Knobs, slow: bool) -> u32 {
-    let World { bank, lines, word, buffers: [temp, temp_2, out, aux] } = world;
-    let Knobs { sustain, trigger, accent, f0, structure, brightness, damping } = *knobs;
-    let Counts { mut burst, mut dust, mut dispersion } = Counts::default();
-    unsafe {
-        exported::bleidhvan_render(
-            bank.as_mut_ptr(),
-            bank.len(),
-            lines.as_mut_ptr(),
-            lines.len(),
-            word,
-            SLOT,
-            sustain,
-            trigger,
-            accent,
-            f0,
-            structure,
-            brightness,
-            damping,
-            temp.as_mut_ptr(),
-            temp.len(),
-            temp_2.as_mut_ptr(),
-            temp_2.len(),
-            out.as_mut_ptr(),
-            out.len(),
-            aux.as_mut_ptr(),
-            aux.len(),
-            &mut burst,
-            &mut dust,
-            &mut dispersion,
-            slow,
-        )
-    }
+    let World { bank, lines, word, buffers } = world;
+    let buffers = buffers.each_mut().map(|buffer| &mut buffer[..]);
+    // A process has the environment of its start here.
+    unsafe { raw::unguarded::render(bank, lines, word, SLOT, knobs, buffers, slow).number }
 }
 
 fn setting(name: &str, kind: u32, setting: Setting, frames: usize) {

@@ -3,8 +3,8 @@
 
 use std::hint::black_box;
 
-use bleidhvan::raw::{self, Answer, EVENTS, Event, LINES, exported};
-use bleidhvan::{Bank, Counts, Kind, Knobs, slow_subnormals};
+use bleidhvan::raw::{self, Answer, EVENTS, Event, LINES};
+use bleidhvan::{Bank, Kind, Knobs, slow_subnormals};
 
 use crate::buffers::{Buffers, same, silent};
 use crate::ratio::{beside, medians};
@@ -89,29 +89,11 @@ impl World {
 #[inline(never)]
 fn play(world: &mut World, sheet: &[Event], blocks: usize) {
     for _ in 0..blocks {
-        let World { bank, lines, word, buffers: [temp, temp_2, out, aux], answers, slow } = world;
-        let number = unsafe {
-            exported::bleidhvan_play(
-                bank.as_mut_ptr(),
-                bank.len(),
-                lines.as_mut_ptr(),
-                lines.len(),
-                word,
-                sheet.as_ptr(),
-                sheet.len(),
-                answers.as_mut_ptr(),
-                answers.len(),
-                temp.as_mut_ptr(),
-                temp.len(),
-                temp_2.as_mut_ptr(),
-                temp_2.len(),
-                out.as_mut_ptr(),
-                out.len(),
-                aux.as_mut_ptr(),
-                aux.len(),
-                *slow,
-            )
-        };
+        let World { bank, lines, word, buffers, answers, slow } = world;
+        let buffers = buffers.each_mut().map(|buffer| &mut buffer[..]);
+        // A process has the environment of its start here.
+        let number =
+            unsafe { raw::unguarded::play(bank, lines, word, sheet, answers, buffers, *slow) };
         assert_eq!(number, 0);
     }
 }
@@ -130,38 +112,11 @@ fn singly(world: &mut World, renders: &[(Event, usize, usize)], blocks: usize) {
 fn render(world: &mut World, event: &Event, from: usize, to: usize) -> Answer {
     let World { bank, lines, word, buffers, slow, .. } = world;
     let Event { slot, trigger, sustain, f0, accent, structure, brightness, damping, .. } = *event;
-    let [temp, temp_2, out, aux] = buffers.each_mut().map(|buffer| &mut buffer[from..to]);
-    let Counts { mut burst, mut dust, mut dispersion } = Counts::default();
-    let number = unsafe {
-        exported::bleidhvan_render(
-            bank.as_mut_ptr(),
-            bank.len(),
-            lines.as_mut_ptr(),
-            lines.len(),
-            word,
-            slot as usize,
-            sustain == 1,
-            trigger == 1,
-            accent,
-            f0,
-            structure,
-            brightness,
-            damping,
-            temp.as_mut_ptr(),
-            temp.len(),
-            temp_2.as_mut_ptr(),
-            temp_2.len(),
-            out.as_mut_ptr(),
-            out.len(),
-            aux.as_mut_ptr(),
-            aux.len(),
-            &mut burst,
-            &mut dust,
-            &mut dispersion,
-            *slow,
-        )
-    };
-    Answer { number, counts: Counts { burst, dust, dispersion } }
+    let (trigger, sustain) = (trigger == 1, sustain == 1);
+    let knobs = Knobs { sustain, trigger, accent, f0, structure, brightness, damping };
+    let buffers = buffers.each_mut().map(|buffer| &mut buffer[from..to]);
+    // A process has the environment of its start here.
+    unsafe { raw::unguarded::render(bank, lines, word, slot as usize, &knobs, buffers, *slow) }
 }
 
 /// A sheet beside its renders, with the same bits and the same answers.

@@ -156,13 +156,141 @@ pub mod exported {
     }
 }
 
+/// The functions of the library over slices, with nothing around them.
+#[allow(unsafe_code)]
+pub mod unguarded {
+    use super::exported::{bleidhvan_open, bleidhvan_play, bleidhvan_render, bleidhvan_reset};
+    use super::{Answer, Buffers, Counts, Event, Knobs};
+
+    /// Opens a slot, and gives the table's number.
+    ///
+    /// # Safety
+    ///
+    /// The floating-point environment is that of a process at its start.
+    #[inline(always)]
+    pub unsafe fn open(
+        bank: &mut [u8],
+        lines: &mut [f32],
+        slot: usize,
+        kind: u32,
+        sample_rate_hz: f32,
+    ) -> u32 {
+        let (bytes, size) = (bank.as_mut_ptr(), bank.len());
+        let (numbers, count) = (lines.as_mut_ptr(), lines.len());
+        // Each slice is lent whole, and to nobody else.
+        unsafe { bleidhvan_open(bytes, size, numbers, count, slot, kind, sample_rate_hz) }
+    }
+
+    /// Resets a string, and gives the table's number.
+    ///
+    /// # Safety
+    ///
+    /// The floating-point environment is that of a process at its start.
+    #[inline(always)]
+    pub unsafe fn reset(bank: &mut [u8], lines: &mut [f32], slot: usize) -> u32 {
+        // Each slice is lent whole, and to nobody else.
+        unsafe {
+            bleidhvan_reset(bank.as_mut_ptr(), bank.len(), lines.as_mut_ptr(), lines.len(), slot)
+        }
+    }
+
+    /// Renders a block of a slot's voice; the word is the generator's.
+    ///
+    /// # Safety
+    ///
+    /// The floating-point environment is that of a process at its start.
+    #[inline(always)]
+    pub unsafe fn render(
+        bank: &mut [u8],
+        lines: &mut [f32],
+        word: &mut u32,
+        slot: usize,
+        knobs: &Knobs,
+        buffers: Buffers<'_>,
+        slow_subnormals: bool,
+    ) -> Answer {
+        let Knobs { sustain, trigger, accent, f0, structure, brightness, damping } = *knobs;
+        let [temp, temp_2, out, aux] = buffers;
+        let Counts { mut burst, mut dust, mut dispersion } = Counts::default();
+        // Each slice and each number is lent whole, and to nobody else.
+        let number = unsafe {
+            bleidhvan_render(
+                bank.as_mut_ptr(),
+                bank.len(),
+                lines.as_mut_ptr(),
+                lines.len(),
+                word,
+                slot,
+                sustain,
+                trigger,
+                accent,
+                f0,
+                structure,
+                brightness,
+                damping,
+                temp.as_mut_ptr(),
+                temp.len(),
+                temp_2.as_mut_ptr(),
+                temp_2.len(),
+                out.as_mut_ptr(),
+                out.len(),
+                aux.as_mut_ptr(),
+                aux.len(),
+                &mut burst,
+                &mut dust,
+                &mut dispersion,
+                slow_subnormals,
+            )
+        };
+        Answer { number, counts: Counts { burst, dust, dispersion } }
+    }
+
+    /// Plays a sheet over a block, and gives the sheet's number.
+    ///
+    /// # Safety
+    ///
+    /// The floating-point environment is that of a process at its start.
+    #[inline(always)]
+    pub unsafe fn play(
+        bank: &mut [u8],
+        lines: &mut [f32],
+        word: &mut u32,
+        sheet: &[Event],
+        answers: &mut [Answer],
+        buffers: Buffers<'_>,
+        slow_subnormals: bool,
+    ) -> u32 {
+        let [temp, temp_2, out, aux] = buffers;
+        // Each slice and the number is lent whole, and to nobody else.
+        unsafe {
+            bleidhvan_play(
+                bank.as_mut_ptr(),
+                bank.len(),
+                lines.as_mut_ptr(),
+                lines.len(),
+                word,
+                sheet.as_ptr(),
+                sheet.len(),
+                answers.as_mut_ptr(),
+                answers.len(),
+                temp.as_mut_ptr(),
+                temp.len(),
+                temp_2.as_mut_ptr(),
+                temp_2.len(),
+                out.as_mut_ptr(),
+                out.len(),
+                aux.as_mut_ptr(),
+                aux.len(),
+                slow_subnormals,
+            )
+        }
+    }
+}
+
 #[allow(unsafe_code)]
 mod guarded {
-    use super::exported::{
-        bleidhvan_bank_bytes, bleidhvan_fresh, bleidhvan_open, bleidhvan_play, bleidhvan_render,
-        bleidhvan_reset,
-    };
-    use super::{Answer, Buffers, Counts, Event, Knobs};
+    use super::exported::{bleidhvan_bank_bytes, bleidhvan_fresh};
+    use super::{Answer, Buffers, Event, Knobs, unguarded};
     use std::arch::asm;
 
     /// MXCSR at the start of a process: round to nearest, subnormal numbers as they are, no exception unmasked, none raised.
@@ -220,27 +348,17 @@ mod guarded {
         kind: u32,
         sample_rate_hz: f32,
     ) -> u32 {
-        // Each slice is lent whole, and to nobody else.
+        // The environment is the one that is asked for.
         in_default_environment(|| unsafe {
-            bleidhvan_open(
-                bank.as_mut_ptr(),
-                bank.len(),
-                lines.as_mut_ptr(),
-                lines.len(),
-                slot,
-                kind,
-                sample_rate_hz,
-            )
+            unguarded::open(bank, lines, slot, kind, sample_rate_hz)
         })
     }
 
     /// Resets a string, and gives the table's number.
     #[inline(never)]
     pub fn reset(bank: &mut [u8], lines: &mut [f32], slot: usize) -> u32 {
-        // Each slice is lent whole, and to nobody else.
-        in_default_environment(|| unsafe {
-            bleidhvan_reset(bank.as_mut_ptr(), bank.len(), lines.as_mut_ptr(), lines.len(), slot)
-        })
+        // The environment is the one that is asked for.
+        in_default_environment(|| unsafe { unguarded::reset(bank, lines, slot) })
     }
 
     /// Renders a block of a slot's voice; the word is the generator's.
@@ -259,40 +377,10 @@ mod guarded {
         buffers: Buffers<'_>,
         slow_subnormals: bool,
     ) -> Answer {
-        let Knobs { sustain, trigger, accent, f0, structure, brightness, damping } = *knobs;
-        let [temp, temp_2, out, aux] = buffers;
-        let Counts { mut burst, mut dust, mut dispersion } = Counts::default();
-        // Each slice and each number is lent whole, and to nobody else.
-        let number = in_default_environment(|| unsafe {
-            bleidhvan_render(
-                bank.as_mut_ptr(),
-                bank.len(),
-                lines.as_mut_ptr(),
-                lines.len(),
-                word,
-                slot,
-                sustain,
-                trigger,
-                accent,
-                f0,
-                structure,
-                brightness,
-                damping,
-                temp.as_mut_ptr(),
-                temp.len(),
-                temp_2.as_mut_ptr(),
-                temp_2.len(),
-                out.as_mut_ptr(),
-                out.len(),
-                aux.as_mut_ptr(),
-                aux.len(),
-                &mut burst,
-                &mut dust,
-                &mut dispersion,
-                slow_subnormals,
-            )
-        });
-        Answer { number, counts: Counts { burst, dust, dispersion } }
+        // The environment is the one that is asked for.
+        in_default_environment(|| unsafe {
+            unguarded::render(bank, lines, word, slot, knobs, buffers, slow_subnormals)
+        })
     }
 
     /// Plays a sheet over a block, and gives the sheet's number: 0 where it is played, and else every answer has it, and nothing else
@@ -312,29 +400,9 @@ mod guarded {
         buffers: Buffers<'_>,
         slow_subnormals: bool,
     ) -> u32 {
-        let [temp, temp_2, out, aux] = buffers;
-        // Each slice and the number is lent whole, and to nobody else.
+        // The environment is the one that is asked for.
         in_default_environment(|| unsafe {
-            bleidhvan_play(
-                bank.as_mut_ptr(),
-                bank.len(),
-                lines.as_mut_ptr(),
-                lines.len(),
-                word,
-                sheet.as_ptr(),
-                sheet.len(),
-                answers.as_mut_ptr(),
-                answers.len(),
-                temp.as_mut_ptr(),
-                temp.len(),
-                temp_2.as_mut_ptr(),
-                temp_2.len(),
-                out.as_mut_ptr(),
-                out.len(),
-                aux.as_mut_ptr(),
-                aux.len(),
-                slow_subnormals,
-            )
+            unguarded::play(bank, lines, word, sheet, answers, buffers, slow_subnormals)
         })
     }
 }

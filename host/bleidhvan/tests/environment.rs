@@ -1,6 +1,6 @@
 //! The calls in every floating-point environment that a caller may have set: the same bits, and the caller's environment after it.
 
-use bleidhvan::raw::{self, Answer, EVENTS, LINES, SLOT_BYTES, exported};
+use bleidhvan::raw::{self, Answer, EVENTS, LINES, SLOT_BYTES};
 use bleidhvan::{Bank, Counts, Event, Kind, Knobs, Refusal};
 use std::arch::asm;
 use std::env;
@@ -110,77 +110,23 @@ impl World {
         let number = match *call {
             Call::Open(slot, kind, rate) => {
                 let World { bank, lines, .. } = self;
-                let (bytes, size) = (bank.as_mut_ptr(), bank.len());
-                let (numbers, count) = (lines.as_mut_ptr(), lines.len());
-                unsafe { exported::bleidhvan_open(bytes, size, numbers, count, slot, kind, rate) }
+                unsafe { raw::unguarded::open(bank, lines, slot, kind, rate) }
             }
             Call::Reset(_) => unreachable!("a reset computes no float"),
-            Call::Render(slot, ref knobs) => return self.render_unguarded(slot, knobs),
-            Call::Play(ref sheet) => self.play_unguarded(sheet),
+            Call::Render(slot, ref knobs) => {
+                let World { bank, lines, word, buffers, slow, .. } = self;
+                let buffers = buffers.each_mut().map(|buffer| &mut buffer[..]);
+                return unsafe {
+                    raw::unguarded::render(bank, lines, word, slot, knobs, buffers, *slow)
+                };
+            }
+            Call::Play(ref sheet) => {
+                let World { bank, lines, word, buffers, answers, slow } = self;
+                let buffers = buffers.each_mut().map(|buffer| &mut buffer[..]);
+                unsafe { raw::unguarded::play(bank, lines, word, sheet, answers, buffers, *slow) }
+            }
         };
         Answer { number, counts }
-    }
-
-    fn render_unguarded(&mut self, slot: usize, knobs: &Knobs) -> Answer {
-        let World { bank, lines, word, buffers: [temp, temp_2, out, aux], slow, .. } = self;
-        let Knobs { sustain, trigger, accent, f0, structure, brightness, damping } = *knobs;
-        let Counts { mut burst, mut dust, mut dispersion } = Counts::default();
-        let number = unsafe {
-            exported::bleidhvan_render(
-                bank.as_mut_ptr(),
-                bank.len(),
-                lines.as_mut_ptr(),
-                lines.len(),
-                word,
-                slot,
-                sustain,
-                trigger,
-                accent,
-                f0,
-                structure,
-                brightness,
-                damping,
-                temp.as_mut_ptr(),
-                temp.len(),
-                temp_2.as_mut_ptr(),
-                temp_2.len(),
-                out.as_mut_ptr(),
-                out.len(),
-                aux.as_mut_ptr(),
-                aux.len(),
-                &mut burst,
-                &mut dust,
-                &mut dispersion,
-                *slow,
-            )
-        };
-        Answer { number, counts: Counts { burst, dust, dispersion } }
-    }
-
-    fn play_unguarded(&mut self, sheet: &[raw::Event]) -> u32 {
-        let World { bank, lines, word, buffers: [temp, temp_2, out, aux], answers, slow } = self;
-        unsafe {
-            exported::bleidhvan_play(
-                bank.as_mut_ptr(),
-                bank.len(),
-                lines.as_mut_ptr(),
-                lines.len(),
-                word,
-                sheet.as_ptr(),
-                sheet.len(),
-                answers.as_mut_ptr(),
-                answers.len(),
-                temp.as_mut_ptr(),
-                temp.len(),
-                temp_2.as_mut_ptr(),
-                temp_2.len(),
-                out.as_mut_ptr(),
-                out.len(),
-                aux.as_mut_ptr(),
-                aux.len(),
-                *slow,
-            )
-        }
     }
 
     /// Whether every bit is the same.
