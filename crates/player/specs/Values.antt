@@ -173,6 +173,6 @@ pub told_value : map told_of (Ok (record { burst = 1; dust = 2; dispersion = 3 }
 told_value = refl
 
 -- a sheet refused whole tells its number in 64 answers, and leaves others
-pub refused_value : map (λ n. refused_answers R.TooMany (replicate n (told 0 no_counts))) (64 ∷ 2 ∷ [])
-    ≡ replicate 64 (told 14 no_counts) ∷ replicate 2 (told 0 no_counts) ∷ []
+pub refused_value : map (λ n. refused_answers R.TooMany (replicate n (told 0 no_counts))) (64 ∷ 63 ∷ 65 ∷ [])
+    ≡ replicate 64 (told 14 no_counts) ∷ replicate 63 (told 0 no_counts) ∷ replicate 65 (told 0 no_counts) ∷ []
 refused_value = refl
