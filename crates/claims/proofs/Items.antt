@@ -11,7 +11,8 @@ use lib.Ieee.{Float}
 use lib.Dec.{eqb}
 use borrow.Author.Tests.{ne_eqb}
 use Rattle.std.proofs.Common.{length-append, length-take, length-drop, le_of_suc-le-suc, not-suc-le-zero}
-use Rattle.std.proofs.lemmas.List.{set_at, append_assoc}
+use Rattle.std.proofs.lemmas.List.{set_at, append_assoc, map-append, length-map}
+use Rattle.std.proofs.lemmas.Simd.{map-map}
 use Rattle.std.specs.Prelude.{Result, Ok, Err}
 use Rattle.ground.specs.F32.{c0}
 use Rattle.ground.specs.Each.{Each}
@@ -41,10 +42,6 @@ use Rattle.player.proofs.Owners.{one_each}
 use Rattle.claims.proofs.Whole.{facts, fresh_inv, fresh_leds, one_event, one_line, account_of}
 
 -- ---- runs, one after the other
-
-map_append : {A B : Type 0} (f : A → B) (xs ys : List A) → map f (xs ++ ys) ≡ map f xs ++ map f ys
-map_append f [] ys = refl
-map_append {B = B} f (x ∷ xs) ys = ap (λ (r : List B). f x ∷ r) (map_append f xs ys)
 
 run_append : (xs ys : List Call) (w : World) → run_from w (xs ++ ys) ≡ run_from w xs ++ run_from (end_from w xs) ys
 unfolding run_from end_from
@@ -83,7 +80,7 @@ run_on w c es v r =
 
 run_join : (w v u : World) (xs ys : List Event) → Run w xs v → Run v ys u → Run w (xs ++ ys) u
 run_join w v u xs ys p q =
-    let m : calls_in (xs ++ ys) ≡ calls_in xs ++ calls_in ys = map_append (λ (e : Event). e.call) xs ys in
+    let m : calls_in (xs ++ ys) ≡ calls_in xs ++ calls_in ys = map-append (λ (e : Event). e.call) xs ys in
     record {
       is = ap (λ (r : List Event). r ++ ys) p.is
           ∙ ap (λ (r : List Event). run_from w (calls_in xs) ++ r) (q.is ∙ ap (λ (x : World). run_from x (calls_in ys)) p.ends)
@@ -269,14 +266,6 @@ unfolding ledger_from
 length_lines size [] ls = refl
 length_lines size (c ∷ cs) ls = ap suc (length_lines size cs (line_of size ls c).slots)
 
-length_map : {A B : Type 0} (f : A → B) (xs : List A) → length (map f xs) ≡ length xs
-length_map f [] = refl
-length_map f (x ∷ xs) = ap suc (length_map f xs)
-
-map_map : {A B C : Type 0} (g : B → C) (f : A → B) (xs : List A) → map g (map f xs) ≡ map (λ x. g (f x)) xs
-map_map g f [] = refl
-map_map {C = C} g f (x ∷ xs) = ap (λ (r : List C). g (f x) ∷ r) (map_map g f xs)
-
 -- ---- an item
 
 -- between the items the ledger has the bank's slots, or line memory has another length
@@ -334,8 +323,8 @@ told_is w es n ev u lines v g r l e =
     let cs = calls_in ev in
     let a : map (λ x. x.answer) ev ≡ map (λ x. x.answer) lines = ap (map (λ x. x.answer)) r.is
     ∙ (facts cs w (leds w) refl v g).answers ∙ ap (map (λ x. x.answer)) (sym l) in
-    let t : map (λ e. told_of e.answer) ev ≡ map (λ l. told_of l.answer) lines = sym (map_map told_of (λ e. e.answer) ev)
-    ∙ ap (map told_of) a ∙ map_map told_of (λ l. l.answer) lines in
+    let t : map (λ e. told_of e.answer) ev ≡ map (λ l. told_of l.answer) lines = sym (map-map told_of (λ e. e.answer) ev)
+    ∙ ap (map told_of) a ∙ map-map told_of (λ l. l.answer) lines in
     (λ i. t i ++ replicate (64 - sym e i) nothing_told)
 
 -- a sheet by the table's word
@@ -369,7 +358,7 @@ module _ (w : World) (es : List SheetEvent) (ts : List Told) (b : Bufs) where
         number = refl;
         answers = answers_walk es n 0 w b [] 64 refl few
             ∙ told_is w es n ev _ (ledger_from 10240 (leds w) planned) v g k.run l
-            (length_lines 10240 planned (leds w) ∙ length_map (λ q. cue_call q b) qs ∙ one_each es n 0);
+            (length_lines 10240 planned (leds w) ∙ length-map qs (λ q. cue_call q b) ∙ one_each es n 0);
         blanks = k.blanks;
         lines = l;
         run = k.run;
@@ -478,13 +467,13 @@ all_passed size (i ∷ is) w ls n f =
     let p = item_passed size w ls i n g.0 in
     let r = all_passed size is m.after after p.next g.1 in
     let cs : calls_in (m.events ++ all_events ms) ≡ calls_in m.events ++ calls_in (all_events ms) =
-    map_append (λ (e : Event). e.call) m.events (all_events ms) in
+    map-append (λ (e : Event). e.call) m.events (all_events ms) in
     record {
       numbers = λ j. p.number j ∷ r.numbers j;
       answers = λ j. p.answers j ∷ r.answers j;
-      blanks = ap (map blank) cs ∙ map_append blank (calls_in m.events) (calls_in (all_events ms))
+      blanks = ap (map blank) cs ∙ map-append blank (calls_in m.events) (calls_in (all_events ms))
           ∙ (λ j. p.blanks j ++ r.blanks j)
-          ∙ sym (map_append blank x.calls (all_calls xs));
+          ∙ sym (map-append blank x.calls (all_calls xs));
       lines = (λ j. p.lines j ++ r.lines j)
           ∙ ap (λ (us : List Line). ledger_from size ls (calls_in m.events) ++ ledger_from size (slots_after ls us) (calls_in (all_events ms))) p.lines
           ∙ sym (ledger_append size (calls_in m.events) (calls_in (all_events ms)) ls)

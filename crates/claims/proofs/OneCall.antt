@@ -4,11 +4,12 @@ use mathlib.Core.Logic.{◌≢◌}
 use mathlib.Core.Bool.{Bool, true, false, not, cond, true≢false}
 use mathlib.Core.List.{List, [], ◌∷◌, map}
 use mathlib.Core.Option.{none, some}
-use Prim.Native.Nat.{ℕ, zero, suc, ◌+◌, ◌*◌, ◌≤◌, ◌<◌, suc-le-suc}
+use Prim.Native.Nat.{ℕ, ◌+◌, ◌*◌, ◌≤◌, ◌<◌, suc-le-suc}
 use native.Mathlib.Decide.{dec_lt}
 use native.Mathlib.Omega.{arith}
 use lib.ListN.{length, get_or, set, length-set, get_or-map}
 use lib.Seq.{get_or-set_same, get_or-set_other}
+use Rattle.std.proofs.lemmas.List.{map-set}
 use lib.Dec.{ltb, eqb}
 use borrow.Author.Tests.{le-ltb, lt-leb, eqb-true, eq-eqb, ltb-false, not-false}
 use lib.Ieee.{Float}
@@ -34,11 +35,6 @@ use Rattle.claims.specs.Ledger.{Led, fresh_led, Entry, act_entry, Line, line_by,
 use Rattle.claims.specs.Claim.{nothing, given, feed, of_done, listen, seen, total, call_order, Ordered}
 use Rattle.claims.proofs.Acts.{led_of, SameSizes, same_sizes, Follows, ByLedger, act_law}
 use Rattle.claims.proofs.Order.{order_law}
-
-map_set : {A B : Type 0} (f : A → B) (l : List A) (i : ℕ) (y : A) → map f (set l i y) ≡ set (map f l) i (f y)
-map_set f [] i y = refl
-map_set f (x ∷ xs) zero y = refl
-map_set {B = B} f (x ∷ xs) (suc i) y = ap (λ (r : List B). f x ∷ r) (map_set f xs i y)
 
 -- ---- the lines of the slots: to replace those of one leaves the others
 
@@ -191,7 +187,7 @@ module _ (w : World) (v : Inv w) (c : Call) where
           same = λ i. Ok ((good.counts ∙ ap (λ (x : Entry). x.counts) (sym entry_is)) i);
           slots = ap (λ (x : Entry). set (leds w) c.slot x.led) entry_is
               ∙ ap (λ (x : Led). set (leds w) c.slot x) (sym good.led)
-              ∙ sym (map_set led_of w.bank.slots c.slot d.voice.slot);
+              ∙ sym (map-set led_of w.bank.slots c.slot d.voice.slot);
           inv = inv_after;
           dealt_is = words_are m w.word ∙ ap (λ (k : ℕ). stream k w.word) many;
           ends_is = ending_is m w.word ∙ ap (λ (k : ℕ). moved k w.word) many;
