@@ -10,7 +10,7 @@ enum { FRAMES = BLEIDHVAN_FRAMES + 1 };
 /* All that is lent to a call, and what a render is told. */
 typedef struct {
     uint8_t bank[BLEIDHVAN_BANK_BYTES + 1];
-    float lines[BLEIDHVAN_LINES + 1], buffers[4][FRAMES];
+    float lines[BLEIDHVAN_LINES + 1], buffers[4][FRAMES + 1];
     uint32_t word;
     size_t bank_len, lines_len, slot, lens[4], counts[3];
     uint32_t kind;
@@ -56,6 +56,12 @@ static void begin(void) {
     world.kind = BLEIDHVAN_STRING;
 }
 
+/* A length beside that of temp. */
+static size_t other_length(int way) {
+    size_t lengths[] = {24, world.lens[0] - 1, world.lens[0] + 1, 0};
+    return lengths[way % 4];
+}
+
 /* What is wrong, by the numbers of the answers; the places of a bank that number 1 reads are in slot 7. */
 static void spoil(uint32_t number, int way) {
     World *w = &world;
@@ -76,11 +82,13 @@ static void spoil(uint32_t number, int way) {
     if (number == BLEIDHVAN_SAMPLE_RATE) w->rate = rates[way];
     if (number == BLEIDHVAN_EMPTY) w->slot = 2 + (size_t)way;
     if (number == BLEIDHVAN_NO_RESET) w->slot = 1;
-    if (number == BLEIDHVAN_LENGTHS) w->lens[way] = 24;
+    if (number == BLEIDHVAN_TEMP_2_LENGTH) w->lens[1] = other_length(way);
+    if (number == BLEIDHVAN_OUT_LENGTH) w->lens[2] = other_length(way);
+    if (number == BLEIDHVAN_AUX_LENGTH) w->lens[3] = other_length(way);
     if (number == BLEIDHVAN_TOO_LONG)
         for (int k = 0; k < 4; k++) w->lens[k] = FRAMES;
     if (number == BLEIDHVAN_F0) w->knobs[0] = off[way];
-    if (number > BLEIDHVAN_F0) w->knobs[number - BLEIDHVAN_F0] = beyond[way];
+    if (number > BLEIDHVAN_F0 && number <= BLEIDHVAN_DAMPING) w->knobs[number - BLEIDHVAN_F0] = beyond[way];
 }
 
 /* Each of a call's numbers alone, and beside every later one of them, gives its own number and changes nothing. */
@@ -103,12 +111,12 @@ static void every_answer(void) {
     const uint32_t opening[] = {BLEIDHVAN_MEMORY, BLEIDHVAN_NO_SLOT, BLEIDHVAN_KIND, BLEIDHVAN_SAMPLE_RATE};
     const uint32_t resetting[] = {BLEIDHVAN_MEMORY, BLEIDHVAN_NO_SLOT, BLEIDHVAN_EMPTY};
     const uint32_t modal[] = {BLEIDHVAN_MEMORY, BLEIDHVAN_NO_RESET};
-    const uint32_t rendering[] = {BLEIDHVAN_MEMORY,  BLEIDHVAN_NO_SLOT,   BLEIDHVAN_EMPTY,      BLEIDHVAN_LENGTHS, BLEIDHVAN_TOO_LONG, BLEIDHVAN_F0,
-                                  BLEIDHVAN_ACCENT, BLEIDHVAN_STRUCTURE, BLEIDHVAN_BRIGHTNESS, BLEIDHVAN_DAMPING};
+    const uint32_t rendering[] = {BLEIDHVAN_MEMORY,   BLEIDHVAN_NO_SLOT, BLEIDHVAN_EMPTY,  BLEIDHVAN_TEMP_2_LENGTH, BLEIDHVAN_OUT_LENGTH, BLEIDHVAN_AUX_LENGTH,
+                                  BLEIDHVAN_TOO_LONG, BLEIDHVAN_F0,      BLEIDHVAN_ACCENT, BLEIDHVAN_STRUCTURE,     BLEIDHVAN_BRIGHTNESS, BLEIDHVAN_DAMPING};
     refused(open, opening, 4);
     refused(reset, resetting, 3);
     refused(reset, modal, 2);
-    refused(render, rendering, 10);
+    refused(render, rendering, 12);
     for (size_t len = 0; len < 2; len++) {
         begin();
         world.bank_len += 1 - 2 * len;

@@ -13,7 +13,7 @@ _Static_assert(sizeof(bleidhvan_answer) == 32 && offsetof(bleidhvan_answer, burs
 /* All that is lent to a sheet's call, but for the answers. */
 typedef struct {
     uint8_t bank[BLEIDHVAN_BANK_BYTES + 1];
-    float lines[BLEIDHVAN_LINES + 1], buffers[4][FRAMES];
+    float lines[BLEIDHVAN_LINES + 1], buffers[4][FRAMES + 1];
     uint32_t word;
     bleidhvan_event sheet[MOST];
     size_t bank_len, lines_len, events, answers_len, lens[4];
@@ -111,6 +111,12 @@ static void refused(uint32_t number) {
     hold(same(&answers[BLEIDHVAN_EVENTS], &untouched), "an answer beyond the last", number);
 }
 
+/* A length beside that of temp. */
+static size_t other_length(int way) {
+    size_t lengths[] = {24, world.lens[0] - 1, world.lens[0] + 1, 0};
+    return lengths[way % 4];
+}
+
 /* What is wrong, by the numbers of a sheet. */
 static void spoil(uint32_t number, int way) {
     World *w = &world;
@@ -127,7 +133,9 @@ static void spoil(uint32_t number, int way) {
         if (way == 6) w->answers_len = BLEIDHVAN_EVENTS - 1;
         if (way == 7) w->answers_len = BLEIDHVAN_EVENTS + 1;
     }
-    if (number == BLEIDHVAN_LENGTHS) w->lens[way % 4] = 24;
+    if (number == BLEIDHVAN_TEMP_2_LENGTH) w->lens[1] = other_length(way);
+    if (number == BLEIDHVAN_OUT_LENGTH) w->lens[2] = other_length(way);
+    if (number == BLEIDHVAN_AUX_LENGTH) w->lens[3] = other_length(way);
     if (number == BLEIDHVAN_TOO_LONG)
         for (int k = 0; k < 4; k++) w->lens[k] = FRAMES;
     if (number == BLEIDHVAN_TOO_MANY) w->events = BLEIDHVAN_EVENTS + 1;
@@ -138,9 +146,10 @@ static void spoil(uint32_t number, int way) {
 
 /* Each number alone, and beside every later one. */
 static void every_number(void) {
-    static const uint32_t numbers[] = {BLEIDHVAN_MEMORY, BLEIDHVAN_LENGTHS, BLEIDHVAN_TOO_LONG, BLEIDHVAN_TOO_MANY, BLEIDHVAN_OUT_OF_ORDER, BLEIDHVAN_PAST_END};
-    for (int first = 0; first < 6; first++)
-        for (int later = first; later < 6; later++)
+    static const uint32_t numbers[] = {BLEIDHVAN_MEMORY,   BLEIDHVAN_TEMP_2_LENGTH, BLEIDHVAN_OUT_LENGTH,   BLEIDHVAN_AUX_LENGTH,
+                                       BLEIDHVAN_TOO_LONG, BLEIDHVAN_TOO_MANY,      BLEIDHVAN_OUT_OF_ORDER, BLEIDHVAN_PAST_END};
+    for (int first = 0; first < 8; first++)
+        for (int later = first; later < 8; later++)
             for (int way = 0; way < 8; way++) {
                 begin(BLEIDHVAN_FRAMES);
                 spoil(numbers[later], way);

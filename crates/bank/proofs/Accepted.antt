@@ -1,7 +1,7 @@
 -- What the table's acceptance tells. Assumes nothing.
 use mathlib.Core.Path.{◌≡◌, refl}
-use mathlib.Core.Bool.{Bool, true, false, true≢false, not, ◌&&◌, ◌||◌}
-use mathlib.Core.List.{List, [], ◌∷◌}
+use mathlib.Core.Bool.{Bool, true, false, true≢false, not, ◌||◌}
+use mathlib.Core.List.{List, [], ◌∷◌, ◌++◌}
 use Prim.Native.Nat.{ℕ, zero, suc, ◌<◌, ◌≤◌}
 use native.Mathlib.Omega.{arith}
 use lib.Dec.{eqb, leb, ltb}
@@ -11,7 +11,7 @@ use borrow.Author.Tests.{eqb-true, eqb-false, ltb-false, leb-false, not-false}
 use Rattle.std.specs.Prelude.{Result, Ok}
 use Rattle.ground.specs.F32.{c0, c0·5, c1}
 use Rattle.ground.specs.Each.{Each}
-use Rattle.ground.proofs.Bools.{or_false, and_true}
+use Rattle.ground.proofs.Bools.{or_false}
 use Rattle.noise.specs.declared.excitation.Knobs.{Knobs}
 use Rattle.noise.specs.Excitation.{Alike}
 use Rattle.waveguide.specs.String.{string_new}
@@ -22,7 +22,7 @@ use Rattle.slots.specs.declared.slots.Slot.{Slot}
 use Rattle.slots.specs.declared.slots.Bank.{Bank}
 use Rattle.slots.specs.Slots.{no_string, empty_slot, slot_at}
 use Rattle.slots.specs.Calls.{Bufs, Act, opening, render}
-use Rattle.slots.specs.Table.{Call, Check, ◌⇐◌, first, in_range, lowest, alike, checks, verdict, bad_slot, bad_slots, bad}
+use Rattle.slots.specs.Table.{Call, Check, ◌⇐◌, first, in_range, lowest, buffer_checks, knob_checks, checks, verdict, bad_slot, bad_slots, bad}
 use Rattle.bank.specs.World.{Ready}
 use Rattle.bank.proofs.Moves.{decided}
 
@@ -119,32 +119,32 @@ unfolding checks
 asked kind zero rate e = absurd (true≢false (spared R.Kind true _ e).0)
 asked kind (suc k) rate e = omega arith
 
--- the checks of a render, none of which applies
+-- what the checks of four buffers leave, none of which applies: they have one length, of at most 4,096, and no check behind applies
+pub record Fit (u : Bufs) (cs : List Check) : Type 0 where
+  pub same : Alike u.temp u.temp2 u.out u.aux
+  pub short : length u.temp ≤ 4096
+  pub rest : Each (λ c. c.applies ≡ false) cs
+
+pub fit : (u : Bufs) (cs : List Check) → Each (λ c. c.applies ≡ false) (buffer_checks u ++ cs) → Fit u cs
+fit u cs h =
+    let n = length u.temp in
+    let same : (m : ℕ) → not (eqb m n) ≡ false → m ≡ n = λ m e. eqb-true m n (not-false (eqb m n) e) in
+    record {
+      same = record { temp2_is = same (length u.temp2) h.0; out_is = same (length u.out) h.1.0; aux_is = same (length u.aux) h.1.1.0 };
+      short = ltb-false 4096 n h.1.1.1.0;
+      rest = h.1.1.1.1;
+    }
+
+-- what the checks of a render leave, none of which applies
 pub record Spared (kind : ℕ) (k : Knobs) (u : Bufs) : Type 0 where
   pub full : eqb kind 0 ≡ false
-  pub lengths : not (alike u) ≡ false
-  pub short : ltb 4096 (length u.temp) ≡ false
+  pub same : Alike u.temp u.temp2 u.out u.aux
+  pub short : length u.temp ≤ 4096
   pub f0 : not (in_range lowest c0·5 k.f0) ≡ false
   pub accent : not (in_range c0 c1 k.accent) ≡ false
   pub structure : not (in_range c0 c1 k.structure) ≡ false
   pub brightness : not (in_range c0 c1 k.brightness) ≡ false
   pub damping : not (in_range c0 c1 k.damping) ≡ false
-
--- buffers that the table does not tell apart have one length
-pub one_length : (u : Bufs) → alike u ≡ true → Alike u.temp u.temp2 u.out u.aux
-unfolding alike
-one_length u e =
-    let n = length u.temp in
-    let t2 = eqb (length u.temp2) n in
-    let o = eqb (length u.out) n in
-    let a = eqb (length u.aux) n in
-    let l = and_true (t2 && o) a e in
-    let m = and_true t2 o l.0 in
-    record {
-      temp2_is = eqb-true (length u.temp2) n m.0;
-      out_is = eqb-true (length u.out) n m.1;
-      aux_is = eqb-true (length u.aux) n l.1;
-    }
 
 -- what they leave: its slot is not empty, and its buffers have one length, of at most 4,096
 module _ (kind : ℕ) (k : Knobs) (u : Bufs) (e : first (checks kind (render k u)) ≡ Ok tt) where
@@ -152,11 +152,12 @@ module _ (kind : ℕ) (k : Knobs) (u : Bufs) (e : first (checks kind (render k u
   unfolding checks
   render_spared =
       let c = all_spared (checks kind (render k u)) e in
-      let knobs = c.1.1.1 in
+      let f = fit u (knob_checks k) c.1 in
+      let knobs = f.rest in
       record {
         full = c.0;
-        lengths = c.1.0;
-        short = c.1.1.0;
+        same = f.same;
+        short = f.short;
         f0 = knobs.0;
         accent = knobs.1.0;
         structure = knobs.1.1.0;
@@ -165,13 +166,10 @@ module _ (kind : ℕ) (k : Knobs) (u : Bufs) (e : first (checks kind (render k u
       }
 
   pub alike_lent : Alike u.temp u.temp2 u.out u.aux
-  alike_lent = one_length u (not-false (alike u) render_spared.lengths)
+  alike_lent = render_spared.same
 
   short : length u.out ≤ 4096
-  short =
-      let n = length u.temp in
-      let h : n ≤ 4096 = ltb-false 4096 n render_spared.short in
-      omega (arith, alike_lent.out_is, h)
+  short = omega (arith, alike_lent.out_is, render_spared.short)
 
   pub ready : (x : Slot) (mem : List Float) (slot : ℕ) → x.kind ≡ kind → Sound x → length mem ≡ 10240 → slot < 8 → Ready x mem slot u.out
   ready x mem slot ek s size in8 =

@@ -33,7 +33,7 @@
 #define BLEIDHVAN_STRING 1
 #define BLEIDHVAN_MODAL 2
 
-/* The answers. A call makes its checks in the order of the numbers and gives the first that applies. The ends of a range are within it, and a NaN is in no range.
+/* The answers. A call makes its checks in the order of this list and gives the first that applies. The ends of a range are within it, and a NaN is in no range.
    A refused call changes nothing: bank, line memory, word and buffers are as they were. A refused render writes 0 to its three counts, and a sheet that is refused whole
    its number and three zeros to each answer. */
 enum {
@@ -46,8 +46,10 @@ enum {
     BLEIDHVAN_SAMPLE_RATE = 4, /* open: sample_rate_hz not within 8000 to 192000 */
     BLEIDHVAN_EMPTY = 5,       /* reset, render: the slot is empty */
     BLEIDHVAN_NO_RESET = 6,    /* reset: the slot has a modal voice, which has no reset */
-    BLEIDHVAN_LENGTHS = 7,     /* render, play: temp, temp_2, out and aux differ in length */
-    BLEIDHVAN_TOO_LONG = 8,    /* render, play: their length is above 4096 */
+    BLEIDHVAN_TEMP_2_LENGTH = 7, /* render, play: temp_2_len is not temp_len, and likewise the next two */
+    BLEIDHVAN_OUT_LENGTH = 17,
+    BLEIDHVAN_AUX_LENGTH = 18,
+    BLEIDHVAN_TOO_LONG = 8,    /* render, play: temp_len is above 4096 */
     BLEIDHVAN_F0 = 9,          /* render: f0 not within 1/1048576 to 0.5 */
     BLEIDHVAN_ACCENT = 10,     /* render: accent not within 0 to 1, and likewise the next three */
     BLEIDHVAN_STRUCTURE = 11,
@@ -86,7 +88,7 @@ uint32_t bleidhvan_open(uint8_t *bank, size_t bank_len, float *lines, size_t lin
 /* A string slot is reset, and its lines are cleared; what is left of a burst stays: 0, or 1, 2, 5 or 6. */
 uint32_t bleidhvan_reset(uint8_t *bank, size_t bank_len, float *lines, size_t lines_len, size_t slot);
 
-/* A block of a slot's voice: 0, or 1, 2, 5, or 7 to 13. The four buffers have one length, the frames of the block, which may be 0. temp and temp_2 are written over;
+/* A block of a slot's voice: 0, or 1, 2, 5, 7 to 13, 17 or 18. The four buffers have one length, the frames of the block, which may be 0. temp and temp_2 are written over;
    the sound is added to out, and what excites it to aux.
    sustain: whether the voice is excited all along; trigger: whether it is struck at the first frame. Struck in a block of no frames, a modal voice keeps the strike.
    accent: how hard a strike is; structure: the string's non-linearity, the stiffness of the modes; brightness of the excitation; damping: how long the sound rings.
@@ -99,7 +101,7 @@ uint32_t bleidhvan_render(uint8_t *bank, size_t bank_len, float *lines, size_t l
                           size_t temp_2_len, float *out, size_t out_len, float *aux, size_t aux_len, size_t *burst, size_t *dust, size_t *dispersion,
                           bool slow_subnormals);
 
-/* A block of several slots, by a sheet of up to 64 events whose frames never go down: 0, or 1, 7, 8 or 14 to 16 where the sheet is refused whole.
+/* A block of several slots, by a sheet of up to 64 events whose frames never go down: 0, or 1, 7, 8 or 14 to 18 where the sheet is refused whole.
    The events make a render each, in the order of the sheet, on the frames from their own to the frame of the next event of their slot in the sheet, or to the end of the
    block. So of two events of a slot on one frame the first makes a render of no frames, and a slot that no event names is left as it is.
    answers: 64 of them. Each event's has at its place the number and the counts of its render, and those past the events are 0. An event that is refused, with 2, 5 or 9 to

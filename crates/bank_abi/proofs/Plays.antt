@@ -9,9 +9,11 @@ use native.Mathlib.Omega.{arith}
 use Rattle.std.specs.Prelude.{Result, Ok, Err}
 use Rattle.slots.specs.declared.answers.Knob.{Knob}
 use Rattle.slots.specs.declared.answers.Knob.TheVariants as K
+use Rattle.slots.specs.declared.answers.Buffer.{Buffer}
+use Rattle.slots.specs.declared.answers.Buffer.TheVariants as B
 use Rattle.slots.specs.declared.answers.Reason.{Reason}
 use Rattle.slots.specs.declared.answers.Reason.TheVariants as R
-use Rattle.slots.specs.Answers.{knob_number, reason_number, no_counts}
+use Rattle.slots.specs.Answers.{knob_number, buffer_number, reason_number, no_counts}
 use Rattle.noise.specs.declared.excitation.Knobs.{Knobs}
 use Rattle.noise.specs.declared.excitation.Counts.{Counts}
 use Rattle.noise.specs.Excitation.{Alike}
@@ -121,6 +123,11 @@ knob_above K.Structure e = absurd (omega (arith, e))
 knob_above K.Brightness e = absurd (omega (arith, e))
 knob_above K.Damping e = absurd (omega (arith, e))
 
+buffer_above : (b : Buffer) → buffer_number b ≡ 0 → ⊥
+buffer_above B.Temp2 e = absurd (omega (arith, e))
+buffer_above B.Out e = absurd (omega (arith, e))
+buffer_above B.Aux e = absurd (omega (arith, e))
+
 above : (r : Reason) → reason_number r ≡ 0 → ⊥
 above R.Memory e = absurd (omega (arith, e))
 above R.NoSlot e = absurd (omega (arith, e))
@@ -128,7 +135,7 @@ above R.Kind e = absurd (omega (arith, e))
 above R.SampleRate e = absurd (omega (arith, e))
 above R.Empty e = absurd (omega (arith, e))
 above R.NoReset e = absurd (omega (arith, e))
-above R.Lengths e = absurd (omega (arith, e))
+above (R.Length b) e = buffer_above b e
 above R.TooLong e = absurd (omega (arith, e))
 above (R.OutOfRange k) e = knob_above k e
 above R.TooMany e = absurd (omega (arith, e))

@@ -25,7 +25,7 @@ use Rattle.slots.specs.declared.answers.Reason.TheVariants.{Memory}
 use Rattle.slots.specs.Answers.{number_of, no_counts}
 use Rattle.slots.specs.Slots.{slot_at}
 use Rattle.slots.specs.Calls.{Bufs, Act, opening, reset, render, InF32}
-use Rattle.slots.specs.Table.{Call, first, alike, checks, verdict, bad}
+use Rattle.slots.specs.Table.{Call, first, checks, verdict, bad}
 use Rattle.bank.specs.World.{World, start, Event, call_by, call_def, run_from, end_from}
 use Rattle.player.specs.declared.sheet.Event.{Event as SheetEvent}
 use Rattle.player.specs.declared.play.Told.{Told}
@@ -101,7 +101,7 @@ ledger_append size (x ∷ xs) ys ls = ap (λ (r : List Line). line_of size ls x 
 module _ (size slot : ℕ) (ls : List Led) (k : Knobs) (b b' : Bufs) (s : SameSizes b b') where
   verdict_sizes : (bad : Bool) (kind : ℕ)
       → verdict bad kind (record { slot = slot; act = render k b }) ≡ verdict bad kind (record { slot = slot; act = render k b' })
-  unfolding verdict checks alike
+  unfolding verdict checks
   verdict_sizes bad kind = rw (s.temp, s.temp2, s.out, s.aux)
 
   by_sizes : (r : Result (Unit {0}) Reason) → line_by r ls (record { slot = slot; act = render k b }) ≡ line_by r ls (record { slot = slot; act = render k b' })

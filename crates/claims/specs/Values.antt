@@ -13,8 +13,9 @@ use Rattle.slots.specs.declared.slots.Bank.{Bank}
 use Rattle.slots.specs.declared.answers.Reason.{Reason}
 use Rattle.slots.specs.Answers.{no_counts, reason_number}
 use Rattle.slots.specs.Slots.{no_string, empty_slot, fresh_bank, slot_at, with_slot}
-use Rattle.slots.specs.Calls.{opening, reset, render}
-use Rattle.slots.specs.Table.{Call, first, in_range, alike, checks, bad_slot, bad_slots, bad, verdict}
+use Rattle.slots.specs.Calls.{Bufs, opening, reset, render}
+use Rattle.slots.specs.Table.{Call, first, in_range, checks, bad_slot, bad_slots, bad, verdict}
+use Rattle.slots.specs.Values.{lens, lengths}
 use Rattle.claims.specs.Ledger.{fresh_led, period, held_period, ratio, whole, next_phase, phase_after, steps, string_entry, render_entry}
 use Rattle.claims.specs.Ledger.{act_entry, line_by, line_of, ledger_from, ledger}
 
@@ -30,7 +31,7 @@ zeros n = replicate n c0
 
 -- a render of a slot into buffers of these lengths
 abbrev pub rendered : ℕ → Knobs → ℕ → ℕ → ℕ → ℕ → Call
-rendered s k temp temp2 out aux = record { slot = s; act = render k (record { temp = zeros temp; temp2 = zeros temp2; out = zeros out; aux = zeros aux }) }
+rendered s k temp temp2 out aux = record { slot = s; act = render k (lens temp temp2 out aux) }
 
 -- a render of slot 0, of n frames: trigger, no sustain, structure 0.5
 abbrev pub block_of : Float → ℕ → Call
@@ -61,7 +62,7 @@ steps_value = refl
 -- burst 8, dust 0, dispersion 3, and left 2040
 pub ledger_value : map {B = Result Counts Reason × ℕ} (λ l. (l.answer, (get_or l.slots 0 fresh_led).left)) (ledger 10240 calls)
     ≡ (Ok no_counts, 0) ∷ (Ok (record { burst = 8; dust = 0; dispersion = 3 }), 2040) ∷ []
-unfolding ledger ledger_from line_of line_by verdict first checks in_range alike act_entry render_entry string_entry period steps
+unfolding ledger ledger_from line_of line_by verdict first checks in_range act_entry render_entry string_entry period steps
     phase_after next_phase whole ratio held_period add sub mul div lt le of_bits to_unsigned
 ledger_value = refl
 
@@ -147,7 +148,7 @@ resets =
     ∷ record { slot = 8; act = reset } ⟹ 2
     ∷ []
 
--- numbers 2, 5, 7 and 8: the slot, an empty one, each length by itself, and the longest block
+-- numbers 2, 5, 7, 17, 18 and 8: the slot, an empty one, the lengths, and the longest block
 abbrev half : Knobs
 half = knobs c0·5 c0·5 c0·5 c0·5 c0·5
 
@@ -157,13 +158,9 @@ blocks =
     ∷ rendered 1 half 4 4 4 4 ⟹ 0
     ∷ rendered 7 half 4 4 4 4 ⟹ 5
     ∷ rendered 8 half 4 4 4 4 ⟹ 2
-    ∷ rendered 0 half 5 4 4 4 ⟹ 7
-    ∷ rendered 0 half 4 5 4 4 ⟹ 7
-    ∷ rendered 0 half 4 4 5 4 ⟹ 7
-    ∷ rendered 0 half 4 4 4 5 ⟹ 7
     ∷ rendered 0 half 4096 4096 4096 4096 ⟹ 0
     ∷ rendered 0 half 4097 4097 4097 4097 ⟹ 8
-    ∷ []
+    ∷ map (λ (x : Bufs × ℕ). record { slot = 0; act = render half x.0 } ⟹ x.1) lengths
 
 -- numbers 9 to 13: each knob at its ends, at the next float beyond each, at -0 and at NaN
 abbrev asked : Knobs → Call
@@ -179,12 +176,14 @@ of_knob k n = map (λ (x : Float × ℕ). asked (k x.0) ⟹ x.1) (
     (f32 0, 0) ∷ (f32 0x80000000, 0) ∷ (f32 0x80000001, n) ∷ (f32 0x3f800000, 0) ∷ (f32 0x3f800001, n) ∷ (nan, n) ∷ []
     )
 
--- calls for which all of 2 to 13 that can apply together do, and then all but those before each
+-- calls for which all of 2 to 13, 17 and 18 that can apply together do, and then all but those before each
 abbrev firsts : List Row
 firsts =
     rendered 8 (knobs nan nan nan nan nan) 4097 0 0 0 ⟹ 2
     ∷ rendered 7 (knobs nan nan nan nan nan) 4097 0 0 0 ⟹ 5
     ∷ rendered 0 (knobs nan nan nan nan nan) 4097 0 0 0 ⟹ 7
+    ∷ rendered 0 (knobs nan nan nan nan nan) 4097 4097 0 0 ⟹ 17
+    ∷ rendered 0 (knobs nan nan nan nan nan) 4097 4097 4097 0 ⟹ 18
     ∷ rendered 0 (knobs nan nan nan nan nan) 4097 4097 4097 4097 ⟹ 8
     ∷ asked (knobs nan nan nan nan nan) ⟹ 9
     ∷ asked (knobs c0·5 nan nan nan nan) ⟹ 10
@@ -205,5 +204,5 @@ rows =
 
 -- the table gives each row its number
 pub rows_value : map given rows ≡ map (λ r. r.number) rows
-unfolding given verdict first checks in_range alike bad bad_slots bad_slot fresh_bank empty_slot no_string string_voice.voice_new string_new lt le of_bits
+unfolding given verdict first checks in_range bad bad_slots bad_slot fresh_bank empty_slot no_string string_voice.voice_new string_new lt le of_bits
 rows_value = refl

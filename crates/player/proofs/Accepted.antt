@@ -11,10 +11,9 @@ use Rattle.std.specs.List.{list_any, list_all}
 use Rattle.ground.proofs.Bools.{or_false}
 use Rattle.noise.specs.Excitation.{Alike}
 use Rattle.slots.specs.Calls.{Bufs}
-use Rattle.slots.specs.Table.{alike}
-use Rattle.bank.proofs.Accepted.{all_spared, one_length}
+use Rattle.bank.proofs.Accepted.{all_spared, fit}
 use Rattle.player.specs.declared.sheet.Event.{Event}
-use Rattle.player.specs.Sheet.{bad_flag, rises, before_end, sheet_verdict}
+use Rattle.player.specs.Sheet.{bad_flag, rises, before_end, event_checks, sheet_verdict}
 
 -- of its frames, in a block of n
 pub record Whole (n : ℕ) (es : List Event) : Type 0 where
@@ -35,15 +34,16 @@ unfolding sheet_verdict
 taken bad es answers b e =
     let c = all_spared _ e in
     let p = or_false (bad || list_any bad_flag es) (not (eqb answers 64)) c.0 in
+    let f = fit b (event_checks (length b.temp) es) c.1 in
     record {
       good = (or_false bad (list_any bad_flag es) p.0).0;
       room = eqb-true answers 64 (not-false (eqb answers 64) p.1);
-      same = one_length b (not-false (alike b) c.1.0);
-      short = ltb-false 4096 (length b.temp) c.1.1.0;
+      same = f.same;
+      short = f.short;
       whole = record {
-        few = ltb-false 64 (length es) c.1.1.1.0;
-        order = not-false (rises 0 es) c.1.1.1.1.0;
-        inside = not-false (list_all (before_end (length b.temp)) es) c.1.1.1.1.1.0;
+        few = ltb-false 64 (length es) f.rest.0;
+        order = not-false (rises 0 es) f.rest.1.0;
+        inside = not-false (list_all (before_end (length b.temp)) es) f.rest.1.1.0;
       };
     }
 

@@ -1,5 +1,5 @@
 -- A sheet: the events of one block, what the table says of it, and the renders that the player makes of it. Assumes nothing.
-use Rattle.std.specs.Prelude.{Bool, true, not, ◌&&◌, ◌||◌, cond, List, [], ◌∷◌, ℕ, suc, eqb, leb, ltb, length, T, Result}
+use Rattle.std.specs.Prelude.{Bool, true, not, ◌&&◌, ◌||◌, cond, List, [], ◌∷◌, ◌++◌, ℕ, suc, eqb, leb, ltb, length, T, Result}
 use Rattle.std.specs.Float.{binary32}
 use Rattle.std.specs.Float.Ieee.{fits}
 use Rattle.std.specs.List.{list_any, list_all}
@@ -7,7 +7,7 @@ use Rattle.noise.specs.declared.excitation.Knobs.{Knobs}
 use Rattle.slots.specs.declared.answers.Reason.{Reason}
 use Rattle.slots.specs.declared.answers.Reason.TheVariants as R
 use Rattle.slots.specs.Calls.{Bufs}
-use Rattle.slots.specs.Table.{◌⇐◌, first, alike}
+use Rattle.slots.specs.Table.{Check, ◌⇐◌, first, buffer_checks}
 use Rattle.player.specs.declared.sheet.Event.{Event}
 
 -- a render's knobs, of an event; a flag that is not 0 is set
@@ -42,17 +42,20 @@ rises last (e ∷ es) = leb last e.frame && rises e.frame es
 abbrev pub before_end : ℕ → Event → Bool
 before_end n e = ltb e.frame n
 
+-- the checks of the events, in a block of n frames
+abbrev pub event_checks : ℕ → List Event → List Check
+event_checks n es =
+    R.TooMany ⇐ ltb 64 (length es)
+    ∷ R.OutOfOrder ⇐ not (rises 0 es)
+    ∷ R.PastEnd ⇐ not (list_all (before_end n) es)
+    ∷ []
+
 -- a whole sheet's checks, into buffers and as many answers: `bad` says whether number 1 applies to bank and line memory
 unfoldable pub sheet_verdict : Bool → List Event → ℕ → Bufs → Result (Unit {0}) Reason
 sheet_verdict bad es answers b =
     first (
     R.Memory ⇐ (bad || list_any bad_flag es || not (eqb answers 64))
-    ∷ R.Lengths ⇐ not (alike b)
-    ∷ R.TooLong ⇐ ltb 4096 (length b.temp)
-    ∷ R.TooMany ⇐ ltb 64 (length es)
-    ∷ R.OutOfOrder ⇐ not (rises 0 es)
-    ∷ R.PastEnd ⇐ not (list_all (before_end (length b.temp)) es)
-    ∷ []
+    ∷ buffer_checks b ++ event_checks (length b.temp) es
     )
 
 -- ---- the renders

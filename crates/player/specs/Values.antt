@@ -2,13 +2,13 @@
 use Rattle.std.specs.Prelude.{◌≡◌, refl, Bool, true, false, List, [], ◌∷◌, ◌++◌, map, ℕ, replicate, Float, Result, Ok, Err}
 use Rattle.std.specs.Float.{binary32}
 use Rattle.std.specs.Float.Ieee.{of_bits}
-use Rattle.ground.specs.F32.{c0}
 use Rattle.noise.specs.declared.excitation.Knobs.{Knobs}
 use Rattle.slots.specs.declared.answers.Reason.{Reason}
 use Rattle.slots.specs.declared.answers.Reason.TheVariants as R
 use Rattle.slots.specs.Answers.{no_counts, reason_number}
 use Rattle.slots.specs.Calls.{Bufs}
-use Rattle.slots.specs.Table.{first, alike}
+use Rattle.slots.specs.Table.{first}
+use Rattle.slots.specs.Values.{lens, block, lengths}
 use Rattle.player.specs.declared.sheet.Event.{Event}
 use Rattle.player.specs.Sheet.{knobs_of, rises, until, cues_from, sheet_verdict, cues}
 use Rattle.player.specs.Owners.{no_event}
@@ -20,13 +20,6 @@ on fs = map (λ f. record no_event { frame = f }) fs
 
 abbrev flagged : ℕ → ℕ → List Event
 flagged trigger sustain = record no_event { trigger = trigger; sustain = sustain } ∷ []
-
--- buffers of these lengths, and of one
-abbrev lens : ℕ → ℕ → ℕ → ℕ → Bufs
-lens temp temp2 out aux = record { temp = replicate temp c0; temp2 = replicate temp2 c0; out = replicate out c0; aux = replicate aux c0 }
-
-abbrev block : ℕ → Bufs
-block n = lens n n n n
 
 -- a sheet with its answers and buffers, and its number, which is 0 where it is played; `bad` is number 1 of bank and line memory
 pub record Row : Type 0 where
@@ -64,14 +57,11 @@ ones =
     ∷ record (row [] 1) { answers = 0 }
     ∷ []
 
--- 7 and 8, each length by itself and the longest block
+-- 7, 17 and 18, also beside 8, and 8 at the longest block
 abbrev blocks : List Row
 blocks =
-    lent (lens 9 8 8 8) [] 7
-    ∷ lent (lens 8 9 8 8) [] 7
-    ∷ lent (lens 8 8 9 8) [] 7
-    ∷ lent (lens 8 8 8 9) [] 7
-    ∷ lent (block 4096) (on (4095 ∷ [])) 0
+    map (λ (x : Bufs × ℕ). lent x.0 [] x.1) lengths
+    ++ lent (block 4096) (on (4095 ∷ [])) 0
     ∷ lent (block 4097) (on (4095 ∷ [])) 8
     ∷ []
 
@@ -106,6 +96,8 @@ firsts =
     ∷ lent (lens 4097 0 0 0) (flagged 2 0) 1
     ∷ row (replicate 65 no_event ++ flagged 2 0) 1
     ∷ lent (lens 4097 0 0 0) (replicate 65 no_event) 7
+    ∷ lent (lens 4097 4097 0 0) (replicate 65 no_event) 17
+    ∷ lent (lens 4097 4097 4097 0) (replicate 65 no_event) 18
     ∷ lent (block 4097) (replicate 65 no_event) 8
     ∷ lent (block 0) (on (9 ∷ []) ++ replicate 64 no_event) 14
     ∷ row (on (9 ∷ 8 ∷ [])) 15
@@ -117,7 +109,7 @@ rows = ones ++ blocks ++ many ++ orders ++ ends ++ firsts
 
 -- the table gives each row its number
 pub rows_value : map given rows ≡ map (λ r. r.number) rows
-unfolding given sheet_verdict first alike rises
+unfolding given sheet_verdict first rises
 rows_value = refl
 
 -- the frames of four events in a block of 8: slot 1, slot 2, slot 1 twice on one frame

@@ -7,7 +7,7 @@ ghost use Rattle.player.specs.Sheet.{knobs_of, until, bad_flag, rises, before_en
 use noise::buffers::Buffers;
 use noise::excitation::Knobs;
 use slots::answers::{Reason, Verdict};
-use slots::table::{alike, refuse_if};
+use slots::table::{check_buffers, refuse_if};
 
 // An event: its frame in the block, the slot that it plays, and a render's knobs. It crosses as C has it, so a flag may hold any number.
 #[repr(C)]
@@ -96,11 +96,9 @@ fn rises(sheet: &[Event]) -> bool
 pub fn check_sheet(bad: bool, sheet: &[Event], answers: usize, b: &Buffers) -> Verdict
     ensures { result ≡ sheet_verdict bad sheet.now answers (held b.now) }
 {
-    let n = b.temp.len();
     refuse_if(bad || bad_flags(sheet) || answers != 64, Reason::Memory)?;
-    refuse_if(!alike(b.temp, b.temp_2, b.out, b.aux), Reason::Lengths)?;
-    refuse_if(n > 4096, Reason::TooLong)?;
+    check_buffers(b.temp, b.temp_2, b.out, b.aux)?;
     refuse_if(sheet.len() > 64, Reason::TooMany)?;
     refuse_if(!rises(sheet), Reason::OutOfOrder)?;
-    refuse_if(!all_before_end(n, sheet), Reason::PastEnd)
+    refuse_if(!all_before_end(b.temp.len(), sheet), Reason::PastEnd)
 }

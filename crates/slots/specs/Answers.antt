@@ -3,6 +3,8 @@ use Rattle.std.specs.Prelude.{ℕ, Result, Ok, Err}
 use Rattle.noise.specs.declared.excitation.Counts.{Counts}
 use Rattle.slots.specs.declared.answers.Knob.{Knob}
 use Rattle.slots.specs.declared.answers.Knob.TheVariants.{F0, Accent, Structure, Brightness, Damping}
+use Rattle.slots.specs.declared.answers.Buffer.{Buffer}
+use Rattle.slots.specs.declared.answers.Buffer.TheVariants.{Temp2, Out, Aux}
 use Rattle.slots.specs.declared.answers.Reason.{Reason}
 use Rattle.slots.specs.declared.answers.Reason.TheVariants as R
 
@@ -13,6 +15,11 @@ knob_number Structure = 11
 knob_number Brightness = 12
 knob_number Damping = 13
 
+abbrev pub buffer_number : Buffer → ℕ
+buffer_number Temp2 = 7
+buffer_number Out = 17
+buffer_number Aux = 18
+
 abbrev pub reason_number : Reason → ℕ
 reason_number R.Memory = 1
 reason_number R.NoSlot = 2
@@ -20,7 +27,7 @@ reason_number R.Kind = 3
 reason_number R.SampleRate = 4
 reason_number R.Empty = 5
 reason_number R.NoReset = 6
-reason_number R.Lengths = 7
+reason_number (R.Length b) = buffer_number b
 reason_number R.TooLong = 8
 reason_number (R.OutOfRange k) = knob_number k
 reason_number R.TooMany = 14

@@ -3,3 +3,4 @@ pub mod Answers
 pub mod Slots
 pub mod Calls
 pub mod Table
+pub mod Values

@@ -1,5 +1,5 @@
 -- 01's table of refusals, as a list of reasons and tests in its order. It is read by the bank and by the ledger. Assumes nothing.
-use Rattle.std.specs.Prelude.{Bool, false, not, ◌&&◌, ◌||◌, cond, List, [], ◌∷◌, ℕ, eqb, leb, ltb, length, Float, Result, Ok, Err}
+use Rattle.std.specs.Prelude.{Bool, false, not, ◌&&◌, ◌||◌, cond, List, [], ◌∷◌, ◌++◌, ℕ, eqb, leb, ltb, length, Float, Result, Ok, Err}
 use Rattle.std.specs.Float.{binary32}
 use Rattle.std.specs.Float.Ieee.{of_bits, le}
 use Rattle.ground.specs.F32.{c0, c0·5, c1}
@@ -7,6 +7,7 @@ use Rattle.noise.specs.declared.excitation.Knobs.{Knobs}
 use Rattle.slots.specs.declared.slots.Slot.{Slot}
 use Rattle.slots.specs.declared.slots.Bank.{Bank}
 use Rattle.slots.specs.declared.answers.Knob.TheVariants as K
+use Rattle.slots.specs.declared.answers.Buffer.TheVariants as B
 use Rattle.slots.specs.declared.answers.Reason.{Reason}
 use Rattle.slots.specs.declared.answers.Reason.TheVariants as R
 use Rattle.slots.specs.Calls.{Act, opening, reset, render, Bufs}
@@ -43,9 +44,14 @@ c8000 = of_bits binary32 0x45fa0000
 abbrev pub c192000 : Float
 c192000 = of_bits binary32 0x483b8000
 
--- temp, temp_2, out, aux do not differ in length
-unfoldable pub alike : Bufs → Bool
-alike b = eqb (length b.temp2) (length b.temp) && eqb (length b.out) (length b.temp) && eqb (length b.aux) (length b.temp)
+-- the checks of four buffers: temp_2, out and aux differ from temp in length, in this order, and temp is too long
+abbrev pub buffer_checks : Bufs → List Check
+buffer_checks b =
+    R.Length B.Temp2 ⇐ not (eqb (length b.temp2) (length b.temp))
+    ∷ R.Length B.Out ⇐ not (eqb (length b.out) (length b.temp))
+    ∷ R.Length B.Aux ⇐ not (eqb (length b.aux) (length b.temp))
+    ∷ R.TooLong ⇐ ltb 4096 (length b.temp)
+    ∷ []
 
 -- the checks of the knobs
 abbrev pub knob_checks : Knobs → List Check
@@ -69,9 +75,7 @@ checks kind reset =
     ∷ []
 checks kind (render k b) =
     R.Empty ⇐ eqb kind 0
-    ∷ R.Lengths ⇐ not (alike b)
-    ∷ R.TooLong ⇐ ltb 4096 (length b.temp)
-    ∷ knob_checks k
+    ∷ buffer_checks b ++ knob_checks k
 
 -- number 1: of any slot, a kind above 2, a write place beyond its line, or left above 1,048,576
 unfoldable pub bad_slot : Slot → Bool

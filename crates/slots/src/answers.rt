@@ -1,6 +1,6 @@
 // What a call answers: the words that it drew, or why it was refused.
 ghost use Rattle.std.specs.Prelude.{◌≡◌};
-ghost use Rattle.slots.specs.Answers.{knob_number, reason_number, number_of, counts_of};
+ghost use Rattle.slots.specs.Answers.{knob_number, buffer_number, reason_number, number_of, counts_of};
 
 use noise::excitation::Counts;
 
@@ -14,6 +14,14 @@ pub enum Knob {
     Damping = 13,
 }
 
+// A buffer that is to have temp's length, by the number where it has another.
+#[derive(Clone, Copy)]
+pub enum Buffer {
+    Temp2 = 7,
+    Out = 17,
+    Aux = 18,
+}
+
 #[derive(Clone, Copy)]
 pub enum Reason {
     Memory,
@@ -22,7 +30,7 @@ pub enum Reason {
     SampleRate,
     Empty,
     NoReset,
-    Lengths,
+    Length(Buffer),
     TooLong,
     OutOfRange(Knob),
     TooMany,
@@ -50,6 +58,14 @@ impl From<Knob> for u32 {
     }
 }
 
+impl From<Buffer> for u32 {
+    ghost from_gives = { λ buffer n. n ≡ buffer_number buffer };
+
+    fn from(buffer: Buffer) -> u32 {
+        buffer as u32
+    }
+}
+
 impl From<Reason> for u32 {
     ghost from_gives = { λ reason n. n ≡ reason_number reason };
 
@@ -61,7 +77,7 @@ impl From<Reason> for u32 {
             Reason::SampleRate => 4,
             Reason::Empty => 5,
             Reason::NoReset => 6,
-            Reason::Lengths => 7,
+            Reason::Length(buffer) => u32::from(buffer),
             Reason::TooLong => 8,
             Reason::OutOfRange(knob) => u32::from(knob),
             Reason::TooMany => 14,

@@ -2,9 +2,9 @@
 ghost use Rattle.std.specs.Prelude.{◌≡◌, ℕ, [], ◌∷◌};
 ghost use Rattle.noise.specs.Buffers.{held};
 ghost use Rattle.slots.specs.Calls.{opening, reset, render};
-ghost use Rattle.slots.specs.Table.{first, ◌⇐◌, in_range, alike, knob_checks, verdict, bad_slot, bad_slots, bad};
+ghost use Rattle.slots.specs.Table.{first, ◌⇐◌, in_range, buffer_checks, knob_checks, verdict, bad_slot, bad_slots, bad};
 
-use crate::answers::{Knob, Reason, Verdict};
+use crate::answers::{Buffer, Knob, Reason, Verdict};
 use crate::slots::{Bank, Kind, Slot};
 use noise::buffers::Buffers;
 use noise::excitation::Knobs;
@@ -43,21 +43,24 @@ fn within(lo: f32, hi: f32, x: f32) -> bool
     lo <= x && x <= hi
 }
 
-// Whether four buffers do not differ in length; `==` of slices would compare what stands in them.
-#[tactic(auto, unfolding(crate::specs::Table::alike))]
-pub fn alike(temp: &[f32], temp_2: &[f32], out: &[f32], aux: &[f32]) -> bool
-    ensures { result ≡ alike (record { temp = temp.now; temp2 = temp_2.now; out = out.now; aux = aux.now }) }
-{
-    let n = temp.len();
-    temp_2.len() == n && out.len() == n && aux.len() == n
-}
-
 // A row of the table: the flag is what the row tests, and `?` leaves at the first that applies.
 #[tactic(auto, unfolding(crate::specs::Table::first))]
 pub fn refuse_if(applies: bool, reason: Reason) -> Verdict
     ensures { result ≡ first (reason ⇐ applies ∷ []) }
 {
     if applies { Err(reason) } else { Ok(()) }
+}
+
+// Numbers 7, 17, 18 and 8; `!=` of slices would compare what stands in them.
+#[tactic(auto, unfolding(crate::specs::Table::first))]
+pub fn check_buffers(temp: &[f32], temp_2: &[f32], out: &[f32], aux: &[f32]) -> Verdict
+    ensures { result ≡ first (buffer_checks (record { temp = temp.now; temp2 = temp_2.now; out = out.now; aux = aux.now })) }
+{
+    let n = temp.len();
+    refuse_if(temp_2.len() != n, Reason::Length(Buffer::Temp2))?;
+    refuse_if(out.len() != n, Reason::Length(Buffer::Out))?;
+    refuse_if(aux.len() != n, Reason::Length(Buffer::Aux))?;
+    refuse_if(n > 4096, Reason::TooLong)
 }
 
 // Numbers 9 to 13.
@@ -133,8 +136,7 @@ pub fn check_render(
     refuse_if(bad, Reason::Memory)?;
     refuse_if(slot > 7, Reason::NoSlot)?;
     refuse_if(kind == 0, Reason::Empty)?;
-    refuse_if(!alike(temp, temp_2, out, aux), Reason::Lengths)?;
-    refuse_if(temp.len() > 4096, Reason::TooLong)?;
+    check_buffers(temp, temp_2, out, aux)?;
     check_knobs(k)
 }
 

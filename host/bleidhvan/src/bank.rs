@@ -1,7 +1,7 @@
 //! A bank of eight slots, with its generator and its line memory.
 
 use crate::raw::{self, Answer};
-use crate::refusal::{Knob, Refusal};
+use crate::refusal::{Buffer, Knob, Refusal};
 use crate::subnormal::slow_subnormals;
 
 /// What a slot is opened with.
@@ -144,6 +144,21 @@ impl Bank {
     /// assert_eq!(refusal.to_string(), "f0 is 0.7, and must be 2^-20 to 0.5 of the sample rate");
     /// # Ok::<(), Refusal>(())
     /// ```
+    ///
+    /// The four buffers have one length. Of those that differ from temp the first is named, before a block that is too long and before
+    /// any knob.
+    ///
+    /// ```
+    /// # use bleidhvan::{Bank, Buffer, Kind, Knobs, Refusal};
+    /// # let mut bank = Bank::new(0);
+    /// # bank.open(0, Kind::Modal, 48000.0)?;
+    /// let [mut temp, mut temp_2, mut aux] = [[0.0; 64]; 3];
+    /// let mut out = [0.0; 63];
+    /// let lent = [&mut temp[..], &mut temp_2, &mut out, &mut aux];
+    /// let refusal = bank.render(0, &Knobs::default(), lent).unwrap_err();
+    /// assert_eq!(refusal, Refusal::Length { buffer: Buffer::Out, frames: 63, temp: 64 });
+    /// # Ok::<(), Refusal>(())
+    /// ```
     pub fn render(
         &mut self,
         slot: usize,
@@ -189,12 +204,18 @@ pub(crate) fn refusal(number: u32, asked: Asked) -> Refusal {
         4 => Refusal::SampleRate { rate },
         5 => Refusal::Empty { slot },
         6 => Refusal::NoReset { slot },
-        7 => Refusal::Lengths { lengths },
         8 => Refusal::TooLong { frames: lengths[0] },
         9..=13 => {
             let knob = Knob::ALL[number as usize - 9];
             Refusal::OutOfRange { knob, value: knobs.value(knob) }
         }
-        _ => Refusal::Memory,
+        _ => other_length(number, lengths).unwrap_or(Refusal::Memory),
     }
+}
+
+/// The refusal of the buffer that has that number; none where no buffer has it.
+fn other_length(number: u32, [temp, others @ ..]: [usize; 4]) -> Option<Refusal> {
+    let mut each = Buffer::ALL.into_iter().zip(others);
+    let (buffer, frames) = each.find(|(buffer, _)| buffer.number() == number)?;
+    Some(Refusal::Length { buffer, frames, temp })
 }

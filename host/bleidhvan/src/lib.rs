@@ -30,7 +30,7 @@ mod sheet;
 mod subnormal;
 
 pub use bank::{Bank, Buffers, Counts, Kind, Knobs};
-pub use refusal::{Knob, Refusal};
+pub use refusal::{Buffer, Knob, Refusal};
 pub use saved::LoadError;
 pub use sheet::{Answers, Event};
 pub use subnormal::slow_subnormals;

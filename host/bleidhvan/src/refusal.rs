@@ -51,6 +51,40 @@ impl Knob {
     }
 }
 
+/// A buffer that is to have the length of temp.
+#[derive(Debug, Clone, Copy, PartialEq, Eq, Hash)]
+pub enum Buffer {
+    /// The filtered excitation.
+    Temp2,
+    /// What the sound is added to.
+    Out,
+    /// What the filtered excitation is added to.
+    Aux,
+}
+
+impl Buffer {
+    /// The buffers in the order in which they are checked, which is theirs in the array that a call is lent.
+    pub const ALL: [Buffer; 3] = [Buffer::Temp2, Buffer::Out, Buffer::Aux];
+
+    /// The name that the buffer has in a call.
+    pub fn name(self) -> &'static str {
+        match self {
+            Buffer::Temp2 => "temp_2",
+            Buffer::Out => "out",
+            Buffer::Aux => "aux",
+        }
+    }
+
+    /// The number of a refusal for its length.
+    pub fn number(self) -> u32 {
+        match self {
+            Buffer::Temp2 => 7,
+            Buffer::Out => 17,
+            Buffer::Aux => 18,
+        }
+    }
+}
+
 /// Why a call was refused. It changed nothing.
 #[derive(Debug, Clone, Copy, PartialEq)]
 pub enum Refusal {
@@ -81,10 +115,14 @@ pub enum Refusal {
         /// The slot asked for.
         slot: usize,
     },
-    /// 7: the buffers differ in length.
-    Lengths {
-        /// The lengths of temp, temp_2, out and aux.
-        lengths: [usize; 4],
+    /// 7, 17 or 18: a buffer has another length than temp.
+    Length {
+        /// The first such buffer.
+        buffer: Buffer,
+        /// Its length.
+        frames: usize,
+        /// The length of temp.
+        temp: usize,
     },
     /// 8: the block is too long.
     TooLong {
@@ -133,7 +171,7 @@ impl Refusal {
             Refusal::SampleRate { .. } => 4,
             Refusal::Empty { .. } => 5,
             Refusal::NoReset { .. } => 6,
-            Refusal::Lengths { .. } => 7,
+            Refusal::Length { buffer, .. } => buffer.number(),
             Refusal::TooLong { .. } => 8,
             Refusal::OutOfRange { knob, .. } => 9 + *knob as u32,
             Refusal::TooMany { .. } => 14,
@@ -160,9 +198,10 @@ impl fmt::Display for Refusal {
             Refusal::NoReset { slot } => {
                 write!(f, "slot {slot} holds a modal voice, which has no reset: open it again")
             }
-            Refusal::Lengths { lengths: [temp, temp_2, out, aux] } => write!(
+            Refusal::Length { buffer, frames, temp } => write!(
                 f,
-                "temp, temp_2, out and aux have {temp}, {temp_2}, {out} and {aux} frames: give them one length"
+                "the length of {} is {frames} and that of temp is {temp}: give the four buffers one length",
+                buffer.name()
             ),
             Refusal::TooLong { frames } => {
                 write!(f, "the block has {frames} frames: at most 4096 are rendered at once")

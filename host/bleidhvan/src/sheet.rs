@@ -86,8 +86,8 @@ impl Bank {
     /// ```
     ///
     /// A sheet of more than 64 events, one whose frames go down and one with a frame at or past the block's end are refused whole:
-    /// nothing changes, and the refusal says which event is at fault. So are buffers of different lengths and a block of more than
-    /// 4,096 frames, before that.
+    /// nothing changes, and the refusal says which event is at fault. So are buffers of different lengths, where it names the buffer,
+    /// and a block of more than 4,096 frames, before that.
     ///
     /// ```
     /// # use bleidhvan::{Bank, Event, Refusal};

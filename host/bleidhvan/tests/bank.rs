@@ -1,7 +1,7 @@
 //! The wrapper as its users call it.
 
 use bleidhvan::raw::{self, Answer, SLOT_BYTES};
-use bleidhvan::{Bank, Counts, Kind, Knob, Knobs, LoadError, Refusal};
+use bleidhvan::{Bank, Buffer, Counts, Kind, Knob, Knobs, LoadError, Refusal};
 
 /// A block of n frames of a slot: out, or why it was refused.
 fn render(bank: &mut Bank, slot: usize, knobs: &Knobs, n: usize) -> Result<Vec<f32>, Refusal> {
@@ -44,23 +44,50 @@ fn the_scope_example_is_counted() {
 fn every_refusal_names_what_was_at_fault() {
     let mut bank = both();
     let before = bank.to_saved();
-    let lengths = [1, 2, 3, 4];
-    let [mut a, mut b, mut c, mut d] = lengths.map(|n| vec![0.0; n]);
-    let unlike = bank.render(0, &strike(), [&mut a, &mut b, &mut c, &mut d]);
     let refusals = [
         (2, bank.open(8, Kind::String, 48000.0).unwrap_err()),
         (4, bank.open(0, Kind::Modal, 7999.0).unwrap_err()),
         (5, bank.reset(7).unwrap_err()),
         (6, bank.reset(1).unwrap_err()),
-        (7, unlike.unwrap_err()),
         (8, render(&mut bank, 0, &strike(), 4097).unwrap_err()),
     ];
     for (number, refusal) in refusals {
         assert_eq!(refusal.number(), number, "{refusal}");
     }
     assert_eq!(refusals[1].1.to_string(), "the sample rate is 7999, and must be 8000 to 192000");
-    assert_eq!(refusals[4].1, Refusal::Lengths { lengths });
     assert!(before == bank.to_saved(), "a refusal changes nothing");
+}
+
+/// Buffers of those lengths, and why a render of them is refused.
+fn refused_lengths(lengths: [usize; 4]) -> Refusal {
+    let mut bank = both();
+    let before = bank.to_saved();
+    let mut buffers = lengths.map(|frames| vec![0.5; frames]);
+    let lent = buffers.each_mut().map(|buffer| &mut buffer[..]);
+    let refusal = bank.render(0, &strike(), lent).unwrap_err();
+    assert!(before == bank.to_saved(), "{refusal}: the bank changed");
+    assert!(buffers.iter().flatten().all(|sample| *sample == 0.5), "{refusal}: a buffer changed");
+    refusal
+}
+
+#[test]
+fn the_first_buffer_of_another_length_is_named_with_both_lengths() {
+    for temp in [1, 24, 4096, 4097] {
+        for (k, (buffer, number)) in Buffer::ALL.into_iter().zip([7, 17, 18]).enumerate() {
+            for frames in [0, temp - 1, temp + 1] {
+                let mut lengths = [temp; 4];
+                lengths[1 + k] = frames;
+                let expected = Refusal::Length { buffer, frames, temp };
+                assert_eq!((refused_lengths(lengths), expected.number()), (expected, number));
+                lengths[2 + k..].fill(temp + 7);
+                assert_eq!(refused_lengths(lengths), expected, "{lengths:?}");
+            }
+        }
+    }
+    assert_eq!(
+        refused_lengths([64, 64, 63, 0]).to_string(),
+        "the length of out is 63 and that of temp is 64: give the four buffers one length"
+    );
 }
 
 #[test]

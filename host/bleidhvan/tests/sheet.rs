@@ -1,6 +1,6 @@
 //! Sheets as users of the wrapper play them.
 
-use bleidhvan::{Bank, Counts, Event, Kind, Knob, Knobs, Refusal};
+use bleidhvan::{Bank, Buffer, Counts, Event, Kind, Knob, Knobs, Refusal};
 
 /// temp, temp_2, out and aux, with something in each.
 type Buffers = [Vec<f32>; 4];
@@ -143,9 +143,13 @@ fn a_frame_past_the_end_is_refused_with_the_event_and_the_block() {
 #[test]
 fn of_two_faults_the_first_by_number_is_given() {
     let many = at(&[[9; 64].as_slice(), &[8, 7]].concat());
-    let lengths = [4097, 4, 4, 5];
-    let unlike = Refusal::Lengths { lengths };
-    assert_eq!((refusal(&many, lengths), unlike.number()), (unlike, 7));
+    let buffers = Buffer::ALL.into_iter().zip([7, 17, 18]).enumerate();
+    for (k, (buffer, number)) in buffers {
+        let mut lengths = [4; 4];
+        lengths[..1 + k].fill(4097);
+        let unlike = Refusal::Length { buffer, frames: 4, temp: 4097 };
+        assert_eq!((refusal(&many, lengths), unlike.number()), (unlike, number));
+    }
     let long = Refusal::TooLong { frames: 4097 };
     assert_eq!((refusal(&many, [4097; 4]), long.number()), (long, 8));
     assert_eq!(refusal(&many, [4; 4]), Refusal::TooMany { events: 66 });

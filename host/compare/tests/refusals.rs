@@ -139,8 +139,8 @@ impl Lent {
         let lines = draws.pick(&[0, 1280, LINES - 1, LINES + 1, LINES, LINES, LINES, LINES, LINES]);
         let frames = draws.pick(&[0, 1, 2, 24, 64, 24, 64, 4095, 4096, 4097]);
         let mut lengths = [frames; 4];
-        if draws.word().is_multiple_of(16) {
-            lengths[draws.pick(&[0, 1, 2, 3])] += 1;
+        if draws.word().is_multiple_of(12) {
+            lengths = lengths.map(|n: usize| draws.pick(&[n, n, n.saturating_sub(1), n + 1]));
         }
         let any = |n: usize, draws: &mut Draws| -> Vec<f32> {
             (0..n).map(|_| f32::from_bits(draws.word())).collect()
@@ -179,7 +179,7 @@ impl Lent {
 fn any_bytes_any_lengths_any_knobs() {
     let cases = std::env::var("REFUSALS").map_or(20_000, |n| n.parse().expect("a number"));
     let mut draws = Draws(33);
-    let mut seen = [0; 14];
+    let mut seen = [0; 19];
     for case in 0..cases {
         let mut lent = Lent::new(&mut draws);
         let slot = draws.pick(&[0, 1, 2, 3, 4, 5, 6, 7, 7, 8, u32::MAX]);
@@ -202,7 +202,8 @@ fn any_bytes_any_lengths_any_knobs() {
         }
     }
     if cases >= 20_000 {
-        assert!(seen.iter().all(|n| *n > 20), "by number: {seen:?}");
+        let mut own = (0..=13).chain([17, 18]);
+        assert!(own.all(|number| seen[number] > 20), "by number: {seen:?}");
     }
 }
 

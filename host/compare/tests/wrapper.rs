@@ -1,7 +1,7 @@
 //! The wrapper's sheets beside the exported player's: every bit, and every refusal with what is at fault in it.
 
 use bleidhvan::raw::{self, Answer, EVENTS, LINES};
-use bleidhvan::{Bank, Event, Kind, Knob, Knobs, Refusal};
+use bleidhvan::{Bank, Buffer, Event, Kind, Knob, Knobs, Refusal};
 use compare::sheets::list::{Lent, List, Step};
 use compare::sheets::{knobs_of, model};
 use record::draws::{buffer, canonical};
@@ -22,10 +22,12 @@ fn events(lent: &Lent) -> Vec<Event> {
 }
 
 /// Why a sheet is refused with that number.
-fn whole(number: u32, sheet: &[Event], lengths: [usize; 4]) -> Refusal {
-    let frames = lengths[0];
+fn whole(number: u32, sheet: &[Event], [frames, temp_2, out, aux]: [usize; 4]) -> Refusal {
+    let other = |buffer, length| Refusal::Length { buffer, frames: length, temp: frames };
     match number {
-        7 => Refusal::Lengths { lengths },
+        7 => other(Buffer::Temp2, temp_2),
+        17 => other(Buffer::Out, out),
+        18 => other(Buffer::Aux, aux),
         8 => Refusal::TooLong { frames },
         14 => Refusal::TooMany { events: sheet.len() },
         15 => {
@@ -116,7 +118,7 @@ fn play(bank: &mut Bank, world: &mut World, lent: &Lent) -> u32 {
 
 #[test]
 fn the_wrapper_plays_as_the_exported_player() {
-    let mut seen = [0; 17];
+    let mut seen = [0; 19];
     for number in 0..100 {
         let mut list = List::new(2, number);
         let mut bank = Bank::new(list.seed);
@@ -139,7 +141,7 @@ fn the_wrapper_plays_as_the_exported_player() {
             }
         }
     }
-    for number in [0, 7, 8, 14, 15, 16] {
+    for number in [0, 7, 17, 18, 8, 14, 15, 16] {
         assert!(seen[number] > 20, "by number: {seen:?}");
     }
 }

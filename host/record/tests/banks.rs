@@ -41,7 +41,7 @@ fn every_list_begins_with_a_bank() {
 #[test]
 fn every_number_is_given_and_a_refusal_counts_nothing() {
     let rows = rows();
-    for number in 0..=13 {
+    for number in (0..=13).chain([17, 18]) {
         let own = |row: &&Row| row[0] < BEGIN && row[NUMBER] == number;
         assert!(rows.iter().filter(own).count() >= 4, "number {number}");
     }
@@ -84,6 +84,22 @@ fn every_range_of_numbers_is_recorded_at_its_ends() {
     ] {
         assert!(is_recorded(&rows, kind, place, inside, 0), "{number}: {inside}");
         assert!(is_recorded(&rows, kind, place, outside, number), "{number}: {outside}");
+    }
+}
+
+#[test]
+fn every_buffer_is_recorded_shorter_and_longer() {
+    let rows = rows();
+    for temp in [24, 4096, 4097] {
+        for (other, number) in [7, 17, 18].into_iter().enumerate() {
+            for length in [temp - 1, temp + 1] {
+                let mut lengths = [temp; 3];
+                lengths[other] = length;
+                let own = |row: &&Row| row[0] == RENDER && row[2] == temp && row[13..16] == lengths;
+                let numbers: Vec<u32> = rows.iter().filter(own).map(|row| row[NUMBER]).collect();
+                assert!(numbers.contains(&number), "{temp} and {lengths:?}: {numbers:?}");
+            }
+        }
     }
 }
 

@@ -14,6 +14,9 @@ const GIVEN: usize = 17;
 /// The numbers of line memory, of which a call is lent a part from the first on.
 const MEMORY: u32 = 10241;
 
+/// 01's numbers, from 0 to 18.
+const NUMBERS: usize = 19;
+
 /// The most that each given word of a row of that kind may be; none where no row is of it.
 fn most(kind: u32) -> Option<[u32; GIVEN]> {
     let mut most = [0; GIVEN];
@@ -43,15 +46,15 @@ struct Sums {
     blocks: u32,
     samples: u64,
     /// How many calls got each of 01's numbers.
-    numbers: [u32; 14],
+    numbers: [u32; NUMBERS],
 }
 
 impl Sums {
     fn add(&mut self, row: &[u32]) {
         let (kind, number) = (row[0], row[GIVEN]);
         self.lists += u32::from(kind == LIST_BEGINS);
-        if kind <= RENDER && number < 14 {
-            self.numbers[number as usize] += 1;
+        if let Some(calls) = self.numbers.get_mut(number as usize).filter(|_| kind <= RENDER) {
+            *calls += 1;
         }
         if kind == RENDER && number == 0 {
             self.blocks += 1;

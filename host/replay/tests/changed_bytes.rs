@@ -226,8 +226,8 @@ fn what_a_row_of_a_bank_was_given() {
         (8, (5, 20), "digest of the record of slot 1"),
         (8, (11, 3), "the number of 01's table"),
         (8, (16, 0), "the number of 01's table"),
-        (368, (12, 0), "digest of the record of slot 2"),
-        (368, (13, 0), "digest of the record of slot 2"),
+        (531, (12, 0), "digest of the record of slot 2"),
+        (531, (13, 0), "digest of the record of slot 2"),
     ] {
         shows_in(Banks, row, place, field);
     }
@@ -238,11 +238,11 @@ fn a_word_of_a_bank_that_is_not_in_use() {
     is_the_one_difference(Banks, 0, 11, "slot");
     is_the_one_difference(Banks, 4, 13, "length of temp_2, or the number put");
     is_the_one_difference(Banks, 8, 9, "seed");
-    is_the_one_difference(Banks, 368, 16, "length of line memory");
+    is_the_one_difference(Banks, 531, 16, "length of line memory");
     shows_in(Banks, 8, (14, 31), "length of out");
     shows_in(Banks, 8, (16, 31), "length of line memory");
-    shows_in(Banks, 368, (11, 3), "slot");
-    shows_in(Banks, 368, (12, 2), "the kind asked for, or which number is put");
+    shows_in(Banks, 531, (11, 3), "slot");
+    shows_in(Banks, 531, (12, 2), "the kind asked for, or which number is put");
     asks_nothing(Banks, 8, 3, "kind");
 }
 
@@ -250,7 +250,7 @@ fn a_word_of_a_bank_that_is_not_in_use() {
 #[test]
 fn every_word_that_was_left() {
     for (file, row, given) in
-        [(Leaves, 2669, 9), (Strings, 5, 12), (Modals, 16, 12), (Banks, 8, 17), (Banks, 368, 17)]
+        [(Leaves, 2669, 9), (Strings, 5, 12), (Modals, 16, 12), (Banks, 8, 17), (Banks, 531, 17)]
     {
         for word in given..file.words() {
             let report = changed(file, row, word, 31);

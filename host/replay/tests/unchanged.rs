@@ -40,8 +40,8 @@ const COMPARED: [(File, &[&str]); 4] = [
     (
         File::Banks,
         &[
-            "calls by number 962 142 39 4 19 13 62 55 24 39 38 35 35 28",
-            "13 lists of 1540 rows, 787 blocks of 157143 samples, 0 differ",
+            "calls by number 970 140 43 4 19 15 51 137 22 43 27 31 33 27 0 0 0 60 36",
+            "13 lists of 1703 rows, 792 blocks of 146376 samples, 0 differ",
         ],
     ),
 ];

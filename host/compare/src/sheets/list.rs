@@ -166,7 +166,7 @@ impl List {
         let faults = draws.pick(&[0, 0, 0, 0, 0, 0, 0, 1, 2, 2]);
         for _ in 0..faults {
             let fault = 4 + draws.below(6);
-            let fault = if fault == 4 { draws.below(5) } else { fault };
+            let fault = if fault == 4 { draws.pick(&[0, 1, 2, 3, 3, 3, 4]) } else { fault };
             FAULTS[fault](draws, &mut lent);
         }
         lent
@@ -244,8 +244,12 @@ fn spoil(draws: &mut Draws, lent: &mut Lent) {
     lent.spoiled = Some((SLOT_BYTES * draws.below(8) + place, value));
 }
 
+/// A flag above 1; where the sheet has too many events, half of the time in one of those behind the 64th.
 fn flag(draws: &mut Draws, lent: &mut Lent) {
-    let event = some_event(draws, lent);
+    let event = match lent.sheet.len().checked_sub(EVENTS) {
+        Some(behind @ 1..) if draws.once_in(2) => &mut lent.sheet[EVENTS + draws.below(behind)],
+        _ => some_event(draws, lent),
+    };
     let flag = draws.pick(&[2, 2, 256, u32::MAX]);
     if draws.once_in(2) { event.trigger = flag } else { event.sustain = flag }
 }
@@ -254,8 +258,13 @@ fn answers(draws: &mut Draws, lent: &mut Lent) {
     lent.answers = draws.pick(&[0, 1, EVENTS - 1, EVENTS + 1]);
 }
 
+/// Any of the four a frame shorter or longer; alone the last more often than the others, since what is checked before it hides it.
 fn lengths(draws: &mut Draws, lent: &mut Lent) {
-    lent.lengths[draws.below(4)] += 1;
+    let any = 1 + draws.below(15);
+    let which = draws.pick(&[2, 4, 4, 8, 8, 8, 12, any]);
+    for (_, length) in (0..).zip(&mut lent.lengths).filter(|(k, _)| which >> k & 1 == 1) {
+        *length = draws.pick(&[*length + 1, length.saturating_sub(1)]);
+    }
 }
 
 fn too_long(draws: &mut Draws, lent: &mut Lent) {

@@ -5,7 +5,7 @@ use std::collections::HashMap;
 use std::ops::RangeInclusive;
 
 /// The numbers for which a sheet is refused whole, in the order of the checks.
-pub const WHOLE: [u32; 6] = [1, 7, 8, 14, 15, 16];
+pub const WHOLE: [u32; 8] = [1, 7, 17, 18, 8, 14, 15, 16];
 
 /// The numbers of an event's own answer.
 pub const OWN: [u32; 8] = [0, 2, 5, 9, 10, 11, 12, 13];
@@ -27,7 +27,9 @@ pub fn faults(asked: &Asked) -> Vec<u32> {
     let odd = |event: &Event| event.trigger > 1 || event.sustain > 1;
     let applies = [
         !memory || answers != 64 || sheet.iter().any(odd),
-        lengths[1..].iter().any(|n| *n != frames),
+        lengths[1] != frames,
+        lengths[2] != frames,
+        lengths[3] != frames,
         frames > 4096,
         sheet.len() > 64,
         !sheet.is_sorted_by_key(|event| event.frame),

@@ -26,9 +26,12 @@ const EMPTY_SKIPPED: usize = 18;
 const REFUSED_HAS_NONE: usize = 19;
 const LONG_FIRST: usize = 20;
 const LATE_FLAG: usize = 21;
+const OUT_BESIDE_TEMP_2: usize = 22;
+const EXCHANGED: usize = 23;
+const AUX_LATE: usize = 24;
 
 /// What is wrong with each.
-pub const PLAYERS: [(&str, Player); 21] = [
+pub const PLAYERS: [(&str, Player); 24] = [
     ("the sheet run backwards", play::<BACKWARDS>),
     ("the answer of the neighbour", play::<NEIGHBOUR>),
     ("renders to the block's end always", play::<TO_THE_END>),
@@ -50,6 +53,9 @@ pub const PLAYERS: [(&str, Player); 21] = [
     ("a refused event has no frames", play::<REFUSED_HAS_NONE>),
     ("8 before 7", play::<LONG_FIRST>),
     ("only the flags of the first 64 events looked at", play::<LATE_FLAG>),
+    ("out compared with temp_2 and not with temp, before 7", play::<OUT_BESIDE_TEMP_2>),
+    ("17 and 18 exchanged", play::<EXCHANGED>),
+    ("8 before 18", play::<AUX_LATE>),
 ];
 
 pub fn play<const WRONG: usize>(
@@ -140,6 +146,15 @@ fn number<const WRONG: usize>(
         }
         END_FIRST if faults.starts_with(&[15, 16]) => faults.reverse(),
         LONG_FIRST if faults.starts_with(&[7, 8]) => faults.reverse(),
+        OUT_BESIDE_TEMP_2 if faults.starts_with(&[7]) && lengths[2] != lengths[1] => {
+            faults.insert(0, 17);
+        }
+        AUX_LATE if faults.starts_with(&[18, 8]) => faults.reverse(),
+        EXCHANGED => faults.iter_mut().for_each(|number| match number {
+            17 => *number = 18,
+            18 => *number = 17,
+            _ => (),
+        }),
         _ => (),
     }
     *faults.first().unwrap_or(&0)

@@ -68,8 +68,16 @@ fn around_range(low: f32, high: f32) -> Vec<f32> {
     [&inside[..], &beyond, &nowhere].concat()
 }
 
+/// The lengths of four buffers of which temp has so many frames, and one or more of the others one less or one more.
+fn by_one(frames: u32) -> Vec<[u32; 4]> {
+    let near = move || frames.saturating_sub(1)..=frames + 1;
+    let two = near().flat_map(|temp_2| near().map(move |out| (temp_2, out)));
+    let all = two.flat_map(|(temp_2, out)| near().map(move |aux| [frames, temp_2, out, aux]));
+    all.filter(|lengths| *lengths != [frames; 4]).collect()
+}
+
 /// The ways in which a render can be at fault, in the table's order.
-fn faults() -> [(u32, fn(&mut Asking)); 10] {
+fn faults() -> [(u32, fn(&mut Asking)); 12] {
     fn knobs(asking: &mut Asking, change: fn(&mut Render)) {
         if let Asked::Render(render) = &mut asking.asked {
             change(render);
@@ -79,7 +87,9 @@ fn faults() -> [(u32, fn(&mut Asking)); 10] {
         (1, |a| a.lines -= 1),
         (2, |a| a.slot = 8),
         (5, |a| a.slot = 7),
-        (7, |a| a.frames[3] += 1),
+        (7, |a| a.frames[1] += 1),
+        (17, |a| a.frames[2] += 1),
+        (18, |a| a.frames[3] += 1),
         (8, |a| a.frames = a.frames.map(|n| n % 64 + MOST_FRAMES + 1)),
         (9, |a| knobs(a, |r| r.f0 = 0.0)),
         (10, |a| knobs(a, |r| r.accent = f32::NAN)),
@@ -161,14 +171,14 @@ impl Lists {
         }
     }
 
-    /// Numbers 7 and 8.
+    /// Numbers 7, 17, 18 and 8.
     fn buffers(&mut self) {
         self.one_of_each(3);
         for slot in [0, 1] {
-            for frames in [0, 1, 24, MOST_FRAMES] {
-                for other in 0..4 {
+            for frames in [0, 24, MOST_FRAMES, MOST_FRAMES + 1] {
+                for lengths in by_one(frames) {
                     let mut asking = render(slot, Trigger, frames, MIDDLE);
-                    asking.frames[other] += 1;
+                    asking.frames = lengths;
                     self.call(asking);
                 }
             }

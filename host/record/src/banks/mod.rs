@@ -53,7 +53,7 @@ mod beside_the_rust {
                 self.long_delays,
                 frames.len(),
                 frames.iter().sum::<u32>(),
-                (0..14).map(calls).collect::<Vec<_>>(),
+                (0..19).map(calls).collect::<Vec<_>>(),
             )
         }
     }

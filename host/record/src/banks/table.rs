@@ -39,7 +39,9 @@ pub fn number(slots: &[Numbers; 8], call: &Call, lines: usize, frames: [usize; 4
 fn render_checks(kind: u32, r: &Render, frames: [usize; 4]) -> Vec<(u32, bool)> {
     vec![
         (5, kind == 0),
-        (7, frames.iter().any(|n| *n != frames[0])),
+        (7, frames[1] != frames[0]),
+        (17, frames[2] != frames[0]),
+        (18, frames[3] != frames[0]),
         (8, frames[0] > MOST_FRAMES as usize),
         (9, outside(r.f0, 2f32.powi(-20)..=0.5)),
         (10, outside(r.accent, 0.0..=1.0)),
