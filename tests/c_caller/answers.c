@@ -1,5 +1,6 @@
 /* Every answer by its name, first where it is checked and in the order of the checks; that a refused call changes nothing; and what an opening leaves. */
 #include "bleidhvan.h"
+#include "other_length.h"
 #include <math.h>
 #include <stdio.h>
 #include <stdlib.h>
@@ -56,12 +57,6 @@ static void begin(void) {
     world.kind = BLEIDHVAN_STRING;
 }
 
-/* A length beside that of temp. */
-static size_t other_length(int way) {
-    size_t lengths[] = {24, world.lens[0] - 1, world.lens[0] + 1, 0};
-    return lengths[way % 4];
-}
-
 /* What is wrong, by the numbers of the answers; the places of a bank that number 1 reads are in slot 7. */
 static void spoil(uint32_t number, int way) {
     World *w = &world;
@@ -82,9 +77,7 @@ static void spoil(uint32_t number, int way) {
     if (number == BLEIDHVAN_SAMPLE_RATE) w->rate = rates[way];
     if (number == BLEIDHVAN_EMPTY) w->slot = 2 + (size_t)way;
     if (number == BLEIDHVAN_NO_RESET) w->slot = 1;
-    if (number == BLEIDHVAN_TEMP_2_LENGTH) w->lens[1] = other_length(way);
-    if (number == BLEIDHVAN_OUT_LENGTH) w->lens[2] = other_length(way);
-    if (number == BLEIDHVAN_AUX_LENGTH) w->lens[3] = other_length(way);
+    other_length(w->lens, number, way);
     if (number == BLEIDHVAN_TOO_LONG)
         for (int k = 0; k < 4; k++) w->lens[k] = FRAMES;
     if (number == BLEIDHVAN_F0) w->knobs[0] = off[way];

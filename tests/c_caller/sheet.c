@@ -1,5 +1,6 @@
 /* Sheets from C: the renders of a sheet beside the same renders by themselves, the ends of what is accepted, and every number of a sheet, alone and beside each later one. */
 #include "bleidhvan.h"
+#include "other_length.h"
 #include <math.h>
 #include <stdio.h>
 #include <stdlib.h>
@@ -111,12 +112,6 @@ static void refused(uint32_t number) {
     hold(same(&answers[BLEIDHVAN_EVENTS], &untouched), "an answer beyond the last", number);
 }
 
-/* A length beside that of temp. */
-static size_t other_length(int way) {
-    size_t lengths[] = {24, world.lens[0] - 1, world.lens[0] + 1, 0};
-    return lengths[way % 4];
-}
-
 /* What is wrong, by the numbers of a sheet. */
 static void spoil(uint32_t number, int way) {
     World *w = &world;
@@ -133,9 +128,7 @@ static void spoil(uint32_t number, int way) {
         if (way == 6) w->answers_len = BLEIDHVAN_EVENTS - 1;
         if (way == 7) w->answers_len = BLEIDHVAN_EVENTS + 1;
     }
-    if (number == BLEIDHVAN_TEMP_2_LENGTH) w->lens[1] = other_length(way);
-    if (number == BLEIDHVAN_OUT_LENGTH) w->lens[2] = other_length(way);
-    if (number == BLEIDHVAN_AUX_LENGTH) w->lens[3] = other_length(way);
+    other_length(w->lens, number, way);
     if (number == BLEIDHVAN_TOO_LONG)
         for (int k = 0; k < 4; k++) w->lens[k] = FRAMES;
     if (number == BLEIDHVAN_TOO_MANY) w->events = BLEIDHVAN_EVENTS + 1;

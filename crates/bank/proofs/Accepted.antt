@@ -138,8 +138,7 @@ fit u cs h =
 -- what the checks of a render leave, none of which applies
 pub record Spared (kind : ℕ) (k : Knobs) (u : Bufs) : Type 0 where
   pub full : eqb kind 0 ≡ false
-  pub same : Alike u.temp u.temp2 u.out u.aux
-  pub short : length u.temp ≤ 4096
+  pub fits : Fit u (knob_checks k)
   pub f0 : not (in_range lowest c0·5 k.f0) ≡ false
   pub accent : not (in_range c0 c1 k.accent) ≡ false
   pub structure : not (in_range c0 c1 k.structure) ≡ false
@@ -156,8 +155,7 @@ module _ (kind : ℕ) (k : Knobs) (u : Bufs) (e : first (checks kind (render k u
       let knobs = f.rest in
       record {
         full = c.0;
-        same = f.same;
-        short = f.short;
+        fits = f;
         f0 = knobs.0;
         accent = knobs.1.0;
         structure = knobs.1.1.0;
@@ -166,10 +164,10 @@ module _ (kind : ℕ) (k : Knobs) (u : Bufs) (e : first (checks kind (render k u
       }
 
   pub alike_lent : Alike u.temp u.temp2 u.out u.aux
-  alike_lent = render_spared.same
+  alike_lent = render_spared.fits.same
 
   short : length u.out ≤ 4096
-  short = omega (arith, alike_lent.out_is, render_spared.short)
+  short = omega (arith, alike_lent.out_is, render_spared.fits.short)
 
   pub ready : (x : Slot) (mem : List Float) (slot : ℕ) → x.kind ≡ kind → Sound x → length mem ≡ 10240 → slot < 8 → Ready x mem slot u.out
   ready x mem slot ek s size in8 =
