@@ -1,4 +1,4 @@
--- 01's number of each reason, and the number and the counts of each answer. Assumes nothing.
+-- The number of each reason, 01's to 13 and 02's from 14 on, and the number and the counts of each answer. Assumes nothing.
 use Rattle.std.specs.Prelude.{ℕ, Result, Ok, Err}
 use Rattle.noise.specs.declared.excitation.Counts.{Counts}
 use Rattle.slots.specs.declared.answers.Knob.{Knob}

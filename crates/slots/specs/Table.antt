@@ -1,4 +1,4 @@
--- 01's table of refusals, as a list of reasons and tests in its order. It is read by the bank and by the ledger. Assumes nothing.
+-- The table of refusals, 01's with 02's numbers, as a list of reasons and tests in its order. It is read by the bank and by the ledger. Assumes nothing.
 use Rattle.std.specs.Prelude.{Bool, false, not, ◌&&◌, ◌||◌, cond, List, [], ◌∷◌, ◌++◌, ℕ, eqb, leb, ltb, length, Float, Result, Ok, Err}
 use Rattle.std.specs.Float.{binary32}
 use Rattle.std.specs.Float.Ieee.{of_bits, le}

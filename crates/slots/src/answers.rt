@@ -14,7 +14,7 @@ pub enum Knob {
     Damping = 13,
 }
 
-// A buffer that is to have temp's length, by the number where it has another.
+// A buffer that is to have temp's length, by its number in the table.
 #[derive(Clone, Copy)]
 pub enum Buffer {
     Temp2 = 7,

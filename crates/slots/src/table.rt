@@ -1,4 +1,4 @@
-// 01's table of refusals: the checks of each call, in its order.
+// The table of refusals, 01's with 02's numbers: the checks of each call, in its order.
 ghost use Rattle.std.specs.Prelude.{◌≡◌, ℕ, [], ◌∷◌};
 ghost use Rattle.noise.specs.Buffers.{held};
 ghost use Rattle.slots.specs.Calls.{opening, reset, render};

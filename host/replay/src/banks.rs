@@ -14,7 +14,7 @@ const GIVEN: usize = 17;
 /// The numbers of line memory, of which a call is lent a part from the first on.
 const MEMORY: u32 = 10241;
 
-/// 01's numbers, from 0 to 18.
+/// The numbers of the table, from 0 to 18.
 const NUMBERS: usize = 19;
 
 /// The most that each given word of a row of that kind may be; none where no row is of it.
@@ -45,7 +45,7 @@ struct Sums {
     lists: u32,
     blocks: u32,
     samples: u64,
-    /// How many calls got each of 01's numbers.
+    /// How many calls got each number of the table.
     numbers: [u32; NUMBERS],
 }
 
