@@ -1,5 +1,5 @@
 // Number 1 and a slot's kind, read off the bytes.
-ghost use Rattle.std.specs.Prelude.{◌≡◌, ◌||◌, length};
+ghost use Rattle.std.specs.Prelude.{◌≡◌, ◌||◌, length, map};
 ghost use Rattle.slots.specs.Table.{bad_slot, bad_slots};
 ghost use Rattle.slot_bytes.specs.Layout.{decode_slot, parts, decode_bank};
 ghost use Rattle.bank_abi.specs.Crossing.{bad_flag, bad_flags, kind_in, bad_bytes};
@@ -21,12 +21,20 @@ fn bad_slot(b: &[u8; 393]) -> bool
     (kind > 2) | (string >= 1024) | (stretch >= 256) | (left > 1048576) | (flag > 1)
 }
 
+// Whether some slot of those is bad.
+fn any_bad(slots: &[[u8; 393]]) -> bool
+    ensures { result ≡ bad_slots (map decode_slot slots.now) || bad_flags slots.now }
+{
+    slots.iter().any(|b| bad_slot(b))
+}
+
 // Whether a slot of the eight is bad. The bytes are a slice, as C hands them, so their length is asked here and in `kind_at`.
+#[tactic(auto, unfolding(slot_bytes::specs::Layout::decode_bank))]
 fn bad_slots(bytes: &[u8]) -> bool
     requires { length bytes.now ≡ 3144 }
     ensures { result ≡ bad_slots (decode_bank bytes.now).slots || bad_flags (parts 8 bytes.now) }
 {
-    slots_of(bytes).iter().any(|b| bad_slot(b))
+    any_bad(slots_of(bytes))
 }
 
 // Whether number 1 applies.

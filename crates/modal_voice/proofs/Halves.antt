@@ -46,7 +46,7 @@ module _ (k : Knobs) (held : Bool) (cutoff : Float) (temp : List Float) {quiet :
 
 -- ---- the halves
 module _ (k : Knobs) (v : ModalVoice) (temp temp2 aux : List Float) (word : ℕ) where
-  pub excited : {cutoff : Float} {f : LowPass} {held : Bool} {w : ℕ} {filter : ResonatorSvf} {temp' temp2' aux' : List Float} {counts : Counts}
+  pub excited : {cutoff : Float} {f : LowPass 0} {held : Bool} {w : ℕ} {filter : ResonatorSvf} {temp' temp2' aux' : List Float} {counts : Counts}
       → cutoff ≡ cutoff_for k → f ≡ low_pass_for k cutoff v → held ≡ held_after k v.held (length temp)
       → run (excitation k.sustain k v.held cutoff temp) word ≡ record { value = temp'; word = w }
       → ◌≡◌ {A = ResonatorSvf × List Float} (filter, temp2') (svf_process_low f.mode f.svf temp' temp2)
@@ -67,7 +67,7 @@ module _ (k : Knobs) (v : ModalVoice) (temp temp2 aux : List Float) (word : ℕ)
       let m = excitation k.sustain k v.held cutoff temp in
       let n = excitation_words k.sustain (length temp) in
       let e = counted_then n (λ t. length t ≡ length temp) m word (excitation_draws k.sustain k v.held cutoff (length temp) temp refl) et in
-      let q = el ∙ ap (λ (f : LowPass). svf_process_low f.mode f.svf temp' temp2) ef in
+      let q = el ∙ ap (λ (f : LowPass 0). svf_process_low f.mode f.svf temp' temp2) ef in
       rw (← ec) (run_then (counted m) _ word e ∙ rw (en, ea, ap (λ q. q.0) q, ap (λ q. q.1) q, eh))
 
 module _ (k : Knobs) (v : ModalVoice) (temp2 out : List Float) where
@@ -94,7 +94,7 @@ module _ (k : Knobs) (v : ModalVoice) (temp temp2 out aux : List Float) (word : 
       run_then (excite_of k v temp temp2 aux) _ word ee ∙ run_then (sound_of k e temp2' out) _ w (ap (λ (m : Draw Sounded). run m w) es)
 
   -- the two halves, where their loops were one
-  pub together : {cutoff b d : Float} {f : LowPass} {held : Bool} {w : ℕ} {modes : Modes} {filter : ResonatorSvf} {gs : List Batch}
+  pub together : {cutoff b d : Float} {f : LowPass 0} {held : Bool} {w : ℕ} {modes : Modes} {filter : ResonatorSvf} {gs : List Batch}
       {temp' temp2' aux' out' : List Float} {counts : Counts}
       → length v.resonator.mode_filters ≡ 6
       → cutoff ≡ cutoff_for k → f ≡ low_pass_for k cutoff v → held ≡ held_after k v.held (length temp)

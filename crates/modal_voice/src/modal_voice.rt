@@ -1,15 +1,14 @@
 // Simple modal synthesis voice with a mallet exciter: click -> LPF -> resonator. With sustain the click is replaced by dust.
 ghost use Rattle.std.specs.Prelude.{◌≡◌};
 ghost use Rattle.ground.specs.Draw.{ret, run, Ran};
-ghost use Rattle.noise.specs.Excitation.{added};
 ghost use Rattle.noise.specs.Buffers.{IsAlike, IsSame};
 ghost use Rattle.modes.specs.Resonator.{svf_process_low};
-ghost use Rattle.modes.specs.OnePass.{one_pass};
-ghost use Rattle.modal_voice.specs.OneLoop.{filter_of, low_pass_for, Renders};
+ghost use Rattle.modal_voice.specs.OneLoop.{filter_of, low_same, low_pass_for, InOne, Renders};
 ghost use Rattle.modal_voice.specs.ModalVoice.{voice_new, voice_init, cutoff_for, resonance_for, strike_of, clicked, excitation, held_after};
 ghost use Rattle.modal_voice.specs.ModalVoice.{excitation_words, excitation_counts, Excited, excite_of, Sounded, sound_of, After, render_of};
 
 use modes::resonator::{Batch, Mode, Modes, Resonator, ResonatorSvf, States};
+use modes::subnormal::is_small;
 use noise::ahead::{Filter, Passed};
 use noise::buffers::Buffers;
 use noise::excitation::{Counts, Knobs, Rendered};
@@ -104,25 +103,42 @@ fn counts_of(sustain: bool, n: usize) -> Counts
     }
 }
 
-// The excitation filter at its mode.
+// The excitation filter at its mode; around subnormal products at AROUND, where its memory is small.
 #[derive(Clone, Copy)]
-pub struct LowPass {
+pub struct LowPass<const AROUND: bool> {
     pub mode: Mode,
     pub svf: ResonatorSvf,
 }
 
-impl Filter for LowPass {
-    ghost step = { filter_of };
-
-    // As a call it takes the frames of all modes a seventh longer.
+impl<const AROUND: bool> LowPass<AROUND> {
+    // A sample through it; at SMALL its products are taken as if they were subnormal.
     #[tactic(auto, unfolding(ground::specs::Frames::scan))]
     #[inline(always)]
-    fn step(self, x: f32) -> (LowPass, f32) {
-        let t = modes::resonator::tick::<false>(self.mode, self.svf, x);
-        (LowPass { svf: t.svf, ..self }, 0.0 + self.mode.gain * t.lp)
+    fn pass<const SMALL: bool>(self, x: f32) -> (LowPass<AROUND>, f32)
+        ensures { result ≡ filter_of self.entry x }
+    {
+        let t = modes::resonator::tick::<SMALL>(self.mode, self.svf, x);
+        let given = 0.0 + modes::resonator::times::<SMALL>(self.mode.gain, t.lp);
+        (LowPass { svf: t.svf, ..self }, given)
+    }
+}
+
+impl<const AROUND: bool> Filter for LowPass<AROUND> {
+    ghost step = { filter_of };
+
+    ghost same = { low_same };
+
+    // As a call it takes the frames of all modes a seventh longer.
+    #[inline(always)]
+    fn step(self, x: f32) -> (LowPass<AROUND>, f32) {
+        if AROUND && is_small(self.svf.state_1) {
+            self.pass::<true>(x)
+        } else {
+            self.pass::<false>(x)
+        }
     }
 
-    fn is(self, other: LowPass) -> bool {
+    fn is(self, other: LowPass<AROUND>) -> bool {
         ground::bits::same(self.svf.state_1, other.svf.state_1)
             && ground::bits::same(self.svf.state_2, other.svf.state_2)
             && ground::bits::same(self.mode.g, other.mode.g)
@@ -132,19 +148,45 @@ impl Filter for LowPass {
     }
 }
 
-// The frames of both halves in one loop, their products as they come. The excitation filter is a frame ahead of the modes, so that neither waits for the other.
-fn frames_in_one(
-    filter: LowPass,
+impl LowPass<false> {
+    // The same filter, around subnormal products.
+    fn around(self) -> LowPass<true>
+        ensures { result ≡ record { mode = self.mode; svf = self.svf } }
+    {
+        LowPass {
+            mode: self.mode,
+            svf: self.svf,
+        }
+    }
+}
+
+// The filter over a block, `around` subnormal products or not, which changes no bit; gives what it keeps behind it.
+fn filter_frames(
+    around: bool,
+    filter: LowPass<false>,
+    temp: &[f32],
+    temp_2: &mut [f32],
+) -> ResonatorSvf
+    ensures { (result, temp_2.new) ≡ svf_process_low filter.mode filter.svf temp.now temp_2.old }
+{
+    let m = silent_from(temp);
+    if around {
+        settle(filter.around(), temp, m, temp_2).svf
+    } else {
+        settle(filter, temp, m, temp_2).svf
+    }
+}
+
+// The frames of both halves in one loop, the modes' products as they come. The excitation filter is a frame ahead of the modes, so that neither waits for the
+// other.
+fn frames_in_one<const AROUND: bool>(
+    filter: LowPass<AROUND>,
     m: &Modes,
     mode_filters: [Batch; 6],
     b: &mut Buffers,
 ) -> (ResonatorSvf, [Batch; 6])
     requires { IsAlike b.old }
-    ensures filtered { (result.0, b.new.temp_2.now) ≡ svf_process_low filter.mode filter.svf b.old.temp.now b.old.temp_2.now }
-    ensures mixed { b.new.aux.now ≡ added b.new.temp_2.now b.old.aux.now }
-    ensures passed { (result.1, b.new.out.now) ≡ one_pass m.now mode_filters b.new.temp_2.now b.old.out.now }
-    ensures temp { b.new.temp.now ≡ b.old.temp.now }
-    ensures same { IsSame b.new b.old }
+    ensures { InOne filter.entry.mode filter.entry.svf m.now mode_filters b.old result b.new }
 {
     // Each field by itself: a pattern that takes `b` apart leaves two `&mut` before each buffer, and the proof of a call that is lent one does not close.
     let temp = &mut *b.temp;
@@ -162,6 +204,24 @@ fn frames_in_one(
         out[i] = m.frame::<false>(&mut states, x, out[i]);
     }
     (ahead.filter.svf, states.into())
+}
+
+// It, its filter `around` subnormal products or not, which changes no bit.
+fn frames_at(
+    around: bool,
+    filter: LowPass<false>,
+    m: &Modes,
+    mode_filters: [Batch; 6],
+    b: &mut Buffers,
+) -> (ResonatorSvf, [Batch; 6])
+    requires { IsAlike b.old }
+    ensures { InOne filter.mode filter.svf m.now mode_filters b.old result b.new }
+{
+    if around {
+        frames_in_one(filter.around(), m, mode_filters, b)
+    } else {
+        frames_in_one(filter, m, mode_filters, b)
+    }
 }
 
 impl ModalVoice {
@@ -188,7 +248,7 @@ impl ModalVoice {
     }
 
     // The excitation filter of a block.
-    fn low_pass(self, k: Knobs, cutoff: f32) -> LowPass
+    fn low_pass(self, k: Knobs, cutoff: f32) -> LowPass<false>
         ensures { result ≡ low_pass_for k cutoff self }
     {
         LowPass {
@@ -211,14 +271,32 @@ impl ModalVoice {
           word = result.word;
         } }
     {
+        self.excite_at(false, k, temp, temp_2, aux, word)
+    }
+
+    // It, its filter `around` subnormal products or not.
+    fn excite_at(
+        self,
+        around: bool,
+        k: Knobs,
+        temp: &mut [f32],
+        temp_2: &mut [f32],
+        aux: &mut [f32],
+        word: u32,
+    ) -> Rendered<ModalVoice>
+        ensures { run (excite_of k self temp.old temp_2.old aux.old) word ≡ record {
+          value = record { voice = result.voice; temp = temp.new; temp2 = temp_2.new; aux = aux.new; counts = result.counts };
+          word = result.word;
+        } }
+    {
         let cutoff = cutoff_for(k);
         let held = held_after(k, self.held, temp.len());
         let counts = counts_of(k.sustain, temp.len());
         let drawn = fill_excitation(k, self.held, cutoff, temp, word);
-        let filter = settle(self.low_pass(k, cutoff), temp, silent_from(temp), temp_2);
+        let filtered = filter_frames(around, self.low_pass(k, cutoff), temp, temp_2);
         noise::excitation::add_into(temp_2, aux);
         let voice = ModalVoice {
-            excitation_filter: filter.svf,
+            excitation_filter: filtered,
             held,
             ..self
         };
@@ -242,7 +320,13 @@ impl ModalVoice {
     }
 
     // Both halves in one loop.
-    fn render_in_one(self, k: Knobs, b: &mut Buffers, word: u32) -> Rendered<ModalVoice>
+    fn render_in_one(
+        self,
+        around: bool,
+        k: Knobs,
+        b: &mut Buffers,
+        word: u32,
+    ) -> Rendered<ModalVoice>
         requires { IsAlike b.old }
         ensures { Renders k self b.old word result b.new }
     {
@@ -256,7 +340,7 @@ impl ModalVoice {
         let resonator = self.resonator;
         let amplitude = resonator.mode_amplitude;
         let modes = modes::resonator::modes_for(amplitude, k.f0, k.structure, brightness, damping);
-        let (svf, mode_filters) = frames_in_one(filter, &modes, resonator.mode_filters, b);
+        let (svf, mode_filters) = frames_at(around, filter, &modes, resonator.mode_filters, b);
         let voice = ModalVoice {
             excitation_filter: svf,
             resonator: Resonator {
@@ -272,7 +356,7 @@ impl ModalVoice {
         }
     }
 
-    // Both halves in turn; a sustained block in one loop, unless it has small modes and is to go around subnormal products.
+    // Both halves in turn; a sustained block in one loop, unless it has small modes and is to go around subnormal products. `around` changes no bit.
     pub fn render(self, around: bool, k: Knobs, b: &mut Buffers, word: u32) -> Rendered<ModalVoice>
         requires { IsAlike b.old }
         ensures all { run (render_of k self b.old.temp.now b.old.temp_2.now b.old.out.now b.old.aux.now) word ≡ record {
@@ -288,12 +372,11 @@ impl ModalVoice {
         } }
         ensures same { IsSame b.new b.old }
     {
-        let small = States::from(self.resonator.mode_filters).any_small();
-        if k.sustain & !(around & small) {
-            self.render_in_one(k, b, word)
+        if k.sustain && !(around && States::from(self.resonator.mode_filters).any_small()) {
+            self.render_in_one(around, k, b, word)
         } else {
             let temp_2 = &mut *b.temp_2;
-            let e = self.excite(k, b.temp, temp_2, b.aux, word);
+            let e = self.excite_at(around, k, b.temp, temp_2, b.aux, word);
             let voice = e.voice.sound(around, k, temp_2, b.out);
             Rendered { voice, ..e }
         }

@@ -249,6 +249,8 @@ fn modes_of(t: Tuned) -> Modes
 }
 
 // The coefficients of all modes for a block. The numbers behind the amplitudes are the parameters of the Rust's `process`, by its names and in its order.
+// In line: as a call it gives its 384 bytes through memory, and whoever calls it copies them.
+#[inline(always)]
 #[tactic(auto, using(crate::proofs::OnePass::made))]
 pub fn modes_for(
     mode_amplitude: [f32; 24],

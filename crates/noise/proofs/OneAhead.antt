@@ -1,6 +1,6 @@
 -- What a filter that is a frame ahead gives and keeps: laws over plain values. Assumes nothing.
 use mathlib.Core.Path.{◌≡◌, ◌∙◌, ap}
-use mathlib.Core.Bool.{Bool, cond}
+use mathlib.Core.Bool.{Bool, false, cond}
 use mathlib.Core.List.{List}
 use Prim.Native.Nat.{ℕ, ◌≤◌, ◌<◌}
 use borrow.Author.Tests.{lt-ltb, le-ltb}
@@ -10,13 +10,13 @@ use Rattle.ground.specs.F32.{c0}
 use Rattle.noise.specs.declared.ahead.Passed.{Passed}
 use Rattle.noise.specs.Ahead.{pass_of, ahead_of}
 
-module _ {F : Type 0} (step : F → Float → F × Float) (f : F) (xs : List Float) (i : ℕ) {o : Passed F} (e : o ≡ ahead_of step f xs i) where
+module _ {F : Type 0} (step : F → Float → F × Float) (same : F → F → Bool) (f : F) (xs : List Float) (i : ℕ) {o : Passed F} (e : o ≡ ahead_of step same f xs i) where
   -- within the block it is the filter's step there
   pub ahead_step : i < length xs → ◌≡◌ {A = F × Float} (o.filter, o.out) (step f (get_or xs i nan))
   unfolding ahead_of
   ahead_step l =
       ap (λ (o : Passed F). (o.filter, o.out)) e
-      ∙ ap (λ (b : Bool). let p : Passed F = cond b (pass_of step f (get_or xs i nan)) (record { filter = f; out = c0 }) in (p.filter, p.out))
+      ∙ ap (λ (b : Bool). let p : Passed F = cond b (pass_of step same f (get_or xs i nan)) (record { filter = f; out = c0; stands = false }) in (p.filter, p.out))
       (lt-ltb i (length xs) l)
 
   -- past its end it stands
@@ -24,5 +24,5 @@ module _ {F : Type 0} (step : F → Float → F × Float) (f : F) (xs : List Flo
   unfolding ahead_of
   ahead_end l =
       ap (λ (o : Passed F). o.filter) e
-      ∙ ap (λ (b : Bool). let p : Passed F = cond b (pass_of step f (get_or xs i nan)) (record { filter = f; out = c0 }) in p.filter)
+      ∙ ap (λ (b : Bool). let p : Passed F = cond b (pass_of step same f (get_or xs i nan)) (record { filter = f; out = c0; stands = false }) in p.filter)
       (le-ltb i (length xs) l)

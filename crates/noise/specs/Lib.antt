@@ -4,3 +4,4 @@ pub mod Buffers
 pub mod Dust
 pub mod Excitation
 pub mod Settling
+pub mod SvfAhead

@@ -1,8 +1,9 @@
 // A filter that is a frame ahead of what it feeds, so that neither waits for the other.
-ghost use Rattle.std.specs.Prelude.{◌≡◌, true, ◌+◌, ◌<◌, length, Float};
+ghost use Rattle.std.specs.Prelude.{◌≡◌, true, Bool, ◌+◌, ◌<◌, length, get_or, Float};
 ghost use Rattle.std.specs.Float.{nan};
 ghost use Rattle.utils.specs.Filter.{svf_step};
-ghost use Rattle.noise.specs.Ahead.{pass_of, ahead_of};
+ghost use Rattle.noise.specs.Ahead.{pass_of, Stays, ahead_of};
+ghost use Rattle.noise.specs.SvfAhead.{svf_same};
 
 use utils::filter::Svf;
 
@@ -11,16 +12,21 @@ pub trait Filter: Copy {
     // The filter after a sample, and the sample that it gives.
     ghost step: { Self → Float → Self × Float };
 
+    // Whether two filters are the same in every bit.
+    ghost same: { Self → Self → Bool };
+
     fn step(self, x: f32) -> (Self, f32)
         ensures { result ≡ step self x };
 
     // By bits: `==` takes 0.0 and -0.0 for one number, and a NaN for none.
     fn is(self, other: Self) -> bool
-        ensures { result ≡ true → self ≡ other };
+        ensures { (result ≡ same self other) × (result ≡ true → self ≡ other) };
 }
 
 impl Filter for Svf {
     ghost step = { λ s x. svf_step s x nan };
+
+    ghost same = { svf_same };
 
     fn step(self, x: f32) -> (Svf, f32) {
         self.process(x)
@@ -35,27 +41,49 @@ impl Filter for Svf {
     }
 }
 
-// A filter past a sample, and what it gave.
+// A filter past a sample, what it gave, and whether it is what it was before; there is a filter and a sample either way, so `stands` is no Option.
 #[derive(Clone, Copy)]
 pub struct Passed<F> {
     pub filter: F,
     pub out: f32,
+    pub stands: bool,
 }
 
 impl<F: Filter> Passed<F> {
     // A sample through a filter. The compiler would leave it a call, which gives the filter through memory at each frame.
     #[inline(always)]
     pub fn pass(f: F, x: f32) -> Passed<F>
-        ensures { result ≡ pass_of F.step f x }
+        ensures { (result ≡ pass_of F.step F.same f x) × Stays F.step F.same result x }
     {
         let (filter, out) = f.step(x);
-        Passed { filter, out }
+        Passed {
+            filter,
+            out,
+            stands: f.is(filter),
+        }
+    }
+
+    // `pass` of y behind that of x: where neither the filter nor the sample has changed, the same again. Where dust is seldom, that is most of a block.
+    #[inline(always)]
+    pub fn pass_on(self, x: f32, y: f32) -> Passed<F>
+        requires { Stays F.step F.same self x }
+        ensures { (result ≡ pass_of F.step F.same self.filter y) × Stays F.step F.same result y }
+    {
+        if self.stands && ground::bits::same(x, y) {
+            // by its fields: as a whole its padding goes through memory too, which takes the string a tenth
+            Passed {
+                stands: true,
+                ..self
+            }
+        } else {
+            Passed::pass(self.filter, y)
+        }
     }
 
     // A filter past the first frame.
     #[tactic(auto, unfolding(crate::specs::Ahead::ahead_of))]
     pub fn first(f: F, xs: &[f32]) -> Passed<F>
-        ensures { result ≡ ahead_of F.step f xs.now 0 }
+        ensures { (result ≡ ahead_of F.step F.same f xs.now 0) × Stays F.step F.same result (get_or xs.now 0 nan) }
     {
         if 0 < xs.len() {
             Passed::pass(f, xs[0])
@@ -63,6 +91,7 @@ impl<F: Filter> Passed<F> {
             Passed {
                 filter: f,
                 out: 0.0,
+                stands: false,
             }
         }
     }
@@ -70,13 +99,17 @@ impl<F: Filter> Passed<F> {
     // The filter past the frame i + 1, where this is the filter past the frame i.
     #[tactic(auto, unfolding(crate::specs::Ahead::ahead_of))]
     pub fn on(self, xs: &[f32], i: usize) -> Passed<F>
-        requires { i < length xs.now }
-        ensures { result ≡ ahead_of F.step self.filter xs.now (i + 1) }
+        requires { Stays F.step F.same self (get_or xs.now i nan) × (i < length xs.now) }
+        ensures { (result ≡ ahead_of F.step F.same self.filter xs.now (i + 1)) × Stays F.step F.same result (get_or xs.now (i + 1) nan) }
     {
         if i + 1 < xs.len() {
-            Passed::pass(self.filter, xs[i + 1])
+            self.pass_on(xs[i], xs[i + 1])
         } else {
-            Passed { out: 0.0, ..self }
+            Passed {
+                out: 0.0,
+                stands: false,
+                ..self
+            }
         }
     }
 }

@@ -3,13 +3,15 @@
 
 ghost use Rattle.std.specs.Prelude.{◌≡◌};
 ghost use Rattle.ground.specs.Draw.{run, Ran};
+ghost use Rattle.noise.specs.Buffers.{IsAlike};
+ghost use Rattle.modal_voice.specs.OneLoop.{Renders};
 ghost use Rattle.voices_abi.specs.Blocks.{alike_sizes};
 ghost use Rattle.voices_abi.specs.Strings.{sizes_fit, blocks_of};
 ghost use Rattle.voices_abi.specs.Modals.{modal_blocks};
 
 use modal_voice::modal_voice::ModalVoice;
 use noise::buffers::Buffers;
-use noise::excitation::Knobs;
+use noise::excitation::{Knobs, Rendered};
 use string_voice::string_voice::StringVoice;
 
 // Whether buffers have one length, which the bank accepts; no crate of the bank stands below this one.
@@ -89,6 +91,23 @@ pub extern "C" fn strings_render(
     drawn
 }
 
+// A block of a modal voice. It is a function of its own, whose loop has all registers: in the loop over the blocks it takes up to twice as long.
+#[inline(never)]
+fn modal_block(
+    voice: &mut ModalVoice,
+    around: bool,
+    k: Knobs,
+    b: &mut Buffers,
+    word: u32,
+) -> Rendered<()>
+    requires { IsAlike b.old }
+    ensures { Renders k voice.old b.old word (record { voice = voice.new; word = result.word; counts = result.counts }) b.new }
+{
+    let r = voice.render(around, k, b, word);
+    *voice = r.voice;
+    r.with(())
+}
+
 // The same of a new modal voice. A generic loop for both would need a trait with a law of what a block leaves, with lines for one voice and none for the other.
 #[tactic(auto, using(crate::proofs::Modals::refused))]
 #[unsafe(no_mangle)]
@@ -142,9 +161,7 @@ pub extern "C" fn modals_render(
     let mut voice = ModalVoice::new().init();
     let mut drawn = word;
     for _ in 0..blocks {
-        let r = voice.render(slow_subnormals, k, &mut b, drawn);
-        voice = r.voice;
-        drawn = r.word;
+        drawn = modal_block(&mut voice, slow_subnormals, k, &mut b, drawn).word;
     }
     drawn
 }

@@ -12,9 +12,9 @@ use Rattle.voices_abi.proofs.modals_render.Goals as goal
 pub loop-preserved : goal.loop-preserved
 loop-preserved c =
     let a = c.args in (
-      turn _ _ _ (sized_again _ _) _ a.word _ _ _ _ _ c.loop.invariant.0 (omega arith) (run_then (render_of _ _ _ _ _ _) _ _ c.render-r.ensures.all),
+      turn _ _ _ (sized_again _ _) _ a.word _ _ _ _ _ c.loop.invariant.0 (omega arith) (run_then (render_of _ _ _ _ _ _) _ _ c.modal_block-drawn.ensures.all),
       same_on
-          c.render-r.ensures.same c.loop.invariant.1,
+          c.modal_block-drawn.ensures.same c.loop.invariant.1,
     )
 
 pub returns : goal.returns

@@ -12,6 +12,7 @@ use Rattle.ground.proofs.Draw.{run_then}
 use Rattle.ground.proofs.Frames.{frames_begin, frames_turn, frames_good, length_scan, scan_turn, scan_end}
 use Rattle.ground.proofs.Lead.{lead_begin, lead_turn, lead_puts, lead_end}
 use Rattle.utils.specs.Filter.{svf_step, svf_process_buffer}
+use Rattle.noise.specs.SvfAhead.{svf_same}
 use Rattle.noise.proofs.OneAhead.{ahead_step, ahead_end}
 use Rattle.waveguide.specs.declared.string.String.{String}
 use Rattle.waveguide.specs.String.{advance, frame}
@@ -26,11 +27,12 @@ loop-i-init c =
     let q = c.requires.2 in
     let e = c.begin-u.ensures in
     let h = c.first-ahead.ensures in (
-      lead_begin (ahead_step filter_of a.f a.b.now.temp.now 0 h) (ahead_end filter_of a.f a.b.now.temp.now 0 h),
+      lead_begin (ahead_step filter_of svf_same a.f a.b.now.temp.now 0 h.0) (ahead_end filter_of svf_same a.f a.b.now.temp.now 0 h.0),
       frames_begin,
       frames_begin,
       begun_ahead a.block.params a.s a.word _ e,
       begun_drawn a.block.params a.s a.word _ e,
+      h.1,
       record {
         all = refl;
         temp2_size = q.temp2_is;
@@ -53,8 +55,8 @@ advance-u-requires c =
         l.invariant.4,
         words_to_few a.block.shape a.block.params b.result.string.src_phase l.i,
         l.invariant.2.within,
-        l.invariant.5.few,
-        l.invariant.5.out_size,
+        l.invariant.6.few,
+        l.invariant.6.out_size,
       ),
     )
 
@@ -64,7 +66,7 @@ loop-i-preserved c =
     let b = c.begin-u in
     let l = c.loop-i in
     let v = l.invariant in
-    let z = v.5 in
+    let z = v.6 in
     let xs = (svf_process_buffer a.f a.b.now.temp.now a.b.now.temp_2.now).1 in
     let lt : l.i < length a.b.now.temp.now = omega (arith, z.all, c.loop-i-test) in
     let within : l.i < min (length a.b.now.temp.now) (length a.b.now.temp_2.now) = omega (arith, z, lt) in
@@ -72,14 +74,15 @@ loop-i-preserved c =
     let q = c.on-ahead.ensures in
     let m = c.advance-u.ensures in
     let good = begun_good a.block.params a.s a.word _ b.ensures a.lines.now c.requires.0 in (
-      lead_turn nan v.0 within (ahead_step filter_of l.ahead.filter a.b.now.temp.now (l.i + 1) q)
-          (ahead_end filter_of l.ahead.filter a.b.now.temp.now (l.i + 1) q),
+      lead_turn nan v.0 within (ahead_step filter_of svf_same l.ahead.filter a.b.now.temp.now (l.i + 1) q.0)
+          (ahead_end filter_of svf_same l.ahead.filter a.b.now.temp.now (l.i + 1) q.0),
       scan_turn nan nan v.1 (omega (arith, z, lt)) (ap (λ (x : Float). (tt, get_or l.aux l.i nan ⊕ x)) x),
       frames_turn nan nan v.2 (omega (arith, z, lt)) (rw (← x, c.mix.ensures)
           (run_then (advance a.block.shape a.block.params _ (l.u.string, l.lines)) _ l.u.word m.0)),
       m.1,
       words_turn a.block.shape a.block.params (b.result.string, a.lines.now) xs a.b.now.out.now b.result.word good l.i l.u.drawn _ v.2 (omega (arith, z, lt))
           v.4 m.2,
+      q.1,
       z,
     )
 
@@ -89,7 +92,7 @@ returns-clause-all c =
     let b = c.begin-u in
     let l = c.loop-i in
     let v = l.invariant in
-    let z = v.5 in
+    let z = v.6 in
     let xs = (svf_process_buffer a.f a.b.now.temp.now a.b.now.temp_2.now).1 in
     let good = begun_good a.block.params a.s a.word _ b.ensures a.lines.now c.requires.0 in
     let past : length a.b.now.temp.now ≤ l.i = omega (arith, z.all, c.loop-i-test) in

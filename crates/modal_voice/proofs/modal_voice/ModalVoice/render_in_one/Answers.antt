@@ -8,7 +8,7 @@ pub returns : goal.returns
 returns c =
     let a = c.args in
     let b = a.b.now in
-    let f = c.frames_in_one.ensures in
+    let f = c.frames_at.ensures in
     record {
       all = rw f.temp
           (together a.k a.self b.temp.now b.temp_2.now b.out.now b.aux.now a.word (search (mapped_length, rules, c)) c.cutoff_for-cutoff.ensures
