@@ -177,8 +177,8 @@ fn filter_frames(
     }
 }
 
-// The frames of both halves in one loop, the modes' products as they come. The excitation filter is a frame ahead of the modes, so that neither waits for the
-// other.
+// The frames of both halves in one loop; at AROUND around subnormal products, of the modes from a frame in sixteen at which one of them is small. The
+// excitation filter is a frame ahead of the modes, so that neither waits for the other.
 fn frames_in_one<const AROUND: bool>(
     filter: LowPass<AROUND>,
     m: &Modes,
@@ -195,18 +195,22 @@ fn frames_in_one<const AROUND: bool>(
     let aux = &mut *b.aux;
     let mut states = States::from(mode_filters);
     let mut ahead = Passed::first(filter, temp);
+    let mut small = false;
     // by index: the filter reads a frame ahead, and four buffers are written
     for i in 0..temp.len() {
+        if AROUND && i % 16 == 0 {
+            small = states.any_small();
+        }
         let x = ahead.out;
         ahead = ahead.on(temp, i);
         temp_2[i] = x;
         aux[i] += x;
-        out[i] = m.frame::<false>(&mut states, x, out[i]);
+        out[i] = m.frame_at(small, &mut states, x, out[i]);
     }
     (ahead.filter.svf, states.into())
 }
 
-// It, its filter `around` subnormal products or not, which changes no bit.
+// The same, `around` subnormal products or not, which changes no bit.
 fn frames_at(
     around: bool,
     filter: LowPass<false>,
@@ -274,7 +278,7 @@ impl ModalVoice {
         self.excite_at(false, k, temp, temp_2, aux, word)
     }
 
-    // It, its filter `around` subnormal products or not.
+    // The same, its filter `around` subnormal products or not, which changes no bit.
     fn excite_at(
         self,
         around: bool,
@@ -356,7 +360,7 @@ impl ModalVoice {
         }
     }
 
-    // Both halves in turn; a sustained block in one loop, unless it has small modes and is to go around subnormal products. `around` changes no bit.
+    // Both halves in turn, but a sustained block in one loop; `around` subnormal products or not, which changes no bit.
     pub fn render(self, around: bool, k: Knobs, b: &mut Buffers, word: u32) -> Rendered<ModalVoice>
         requires { IsAlike b.old }
         ensures all { run (render_of k self b.old.temp.now b.old.temp_2.now b.old.out.now b.old.aux.now) word ≡ record {
@@ -372,7 +376,7 @@ impl ModalVoice {
         } }
         ensures same { IsSame b.new b.old }
     {
-        if k.sustain && !(around && States::from(self.resonator.mode_filters).any_small()) {
+        if k.sustain {
             self.render_in_one(around, k, b, word)
         } else {
             let temp_2 = &mut *b.temp_2;

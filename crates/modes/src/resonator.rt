@@ -438,6 +438,18 @@ impl Modes {
         }
         add_batches(y, &bands)
     }
+
+    // A frame, around subnormal products where `small` says that there may be some, which changes no bit.
+    #[inline(always)]
+    pub fn frame_at(&self, small: bool, states: &mut States, x: f32, y: f32) -> f32
+        ensures { (states.new, result) ≡ frame_of self.now states.old x y }
+    {
+        if small {
+            self.frame::<true>(states, x, y)
+        } else {
+            self.frame::<false>(states, x, y)
+        }
+    }
 }
 
 // The sum of a batch. Its line shows the order of the four terms, which a loop would not.

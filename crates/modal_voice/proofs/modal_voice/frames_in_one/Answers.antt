@@ -15,7 +15,7 @@ loop-i-preserved g c =
     let a = c.args in
     let b = a.b.now in
     underway_turn a.filter a.m.now c.from-states.result b.temp.now b.temp_2.now b.out.now b.aux.now c.loop-i.invariant (omega arith) c.on-ahead.ensures.0 c.on-ahead.ensures.1
-    c.frame.ensures
+    c.frame_at.ensures
 
 pub returns : goal.returns
 returns g c =
