@@ -1,5 +1,6 @@
 -- One loop over the frames is the excitation filter, then aux, then the modes: laws over plain values. Assumes nothing.
 use mathlib.Core.Path.{◌≡◌, refl, sym, ◌∙◌, ap}
+use mathlib.Core.Bool.{Bool, false}
 use mathlib.Core.List.{List, [], ◌∷◌}
 use Prim.Native.Nat.{ℕ, ◌+◌, ◌≤◌, ◌<◌, min}
 use native.Mathlib.Omega.{arith}
@@ -15,9 +16,9 @@ use Rattle.modes.specs.declared.resonator.Batch.{Batch}
 use Rattle.modes.specs.declared.resonator.Modes.{Modes}
 use Rattle.modes.specs.declared.resonator.States.{States}
 use Rattle.noise.specs.declared.ahead.Passed.{Passed}
-use Rattle.noise.specs.Ahead.{Stays, ahead_of}
+use Rattle.noise.specs.Ahead.{Stays, ahead_of, ahead_compared_of}
 use Rattle.noise.specs.Settling.{filtered}
-use Rattle.noise.proofs.OneAhead.{ahead_step, ahead_end}
+use Rattle.noise.proofs.OneAhead.{ahead_compared_step, ahead_compared_end}
 use Rattle.modal_voice.specs.declared.modal_voice.LowPass.{LowPass}
 use Rattle.modes.specs.Resonator.{svf_process_low}
 use Rattle.modes.specs.OnePass.{states_of, filters_of, frame_of, one_pass}
@@ -47,39 +48,64 @@ module _ {A : ℕ} (f : LowPass A) (m : Modes) (states : States) (temp temp2 out
     pub lead : Lead filter_of nan f temp temp2 i ts (o.filter, o.out)
     pub mixed : Scan add_step tt filled aux i tt us
     pub sung : Scan (frame_of m) states filled out i now os
-    pub stays : Stays filter_of low_same o (get_or temp i nan)
     pub sizes : Alike temp temp2 out aux
     pub filled_is : length filled ≡ length temp
 
-  pub underway_begin : {o : Passed (LowPass A)} → Alike temp temp2 out aux → o ≡ ahead_of filter_of low_same f temp 0
-      → Stays filter_of low_same o (get_or temp 0 nan) → Underway 0 temp2 out aux states o
-  underway_begin a e t =
-      record {
-        lead = lead_begin (ahead_step filter_of low_same f temp 0 e) (ahead_end filter_of low_same f temp 0 e);
-        mixed = frames_begin;
-        sung = frames_begin;
-        stays = t;
-        sizes = a;
-        filled_is = length_scan (fill filter_of) f temp temp2 ∙ a.temp2_is;
-      }
+  -- and where the filter stands, it makes the same of the same sample
+  abbrev pub UnderwayCompared : ℕ → List Float → List Float → List Float → States → Passed (LowPass A) → Type 0
+  UnderwayCompared i ts os us now o = Underway i ts os us now o × Stays filter_of low_same o (get_or temp i nan)
+
+  -- whatever it is by which two filters are found the same
+  module _ (same : LowPass A → LowPass A → Bool) where
+    begins : {o : Passed (LowPass A)} → Alike temp temp2 out aux → o ≡ ahead_compared_of filter_of same f temp 0 → Underway 0 temp2 out aux states o
+    begins a e =
+        record {
+          lead = lead_begin (ahead_compared_step filter_of same f temp 0 e) (ahead_compared_end filter_of same f temp 0 e);
+          mixed = frames_begin;
+          sung = frames_begin;
+          sizes = a;
+          filled_is = length_scan (fill filter_of) f temp temp2 ∙ a.temp2_is;
+        }
+
+    turns : {i : ℕ} {ts os us : List Float} {now now' : States} {o p : Passed (LowPass A)} {y : Float} → Underway i ts os us now o → i < length temp
+        → p ≡ ahead_compared_of filter_of same o.filter temp (i + 1)
+        → ◌≡◌ {A = States × Float} (now', y) (frame_of m now o.out (get_or os i nan))
+        → Underway (i + 1) (set ts i o.out) (set os i y) (set us i (get_or us i nan ⊕ o.out)) now' p
+    turns {i = i} {os = os} {us = us} {now = now} {o = o} v l e h =
+        let z = v.sizes in
+        let n = v.filled_is in
+        let within : i < min (length temp) (length temp2) = omega (arith, z, l) in
+        let x : o.out ≡ get_or filled i nan = lead_puts nan v.lead within in
+        record {
+          lead = lead_turn nan v.lead within (ahead_compared_step filter_of same o.filter temp (i + 1) e)
+              (ahead_compared_end filter_of same o.filter temp (i + 1) e);
+          mixed = scan_turn nan nan v.mixed (omega (arith, z, n, l)) (ap (λ (x : Float). (tt, get_or us i nan ⊕ x)) x);
+          sung = scan_turn nan nan v.sung (omega (arith, z, n, l)) (h ∙ ap (λ (x : Float). frame_of m now x (get_or os i nan)) x);
+          sizes = z;
+          filled_is = n;
+        }
+
+  pub underway_begin : {o : Passed (LowPass A)} → Alike temp temp2 out aux → o ≡ ahead_of filter_of f temp 0 → Underway 0 temp2 out aux states o
+  unfolding ahead_of ahead_compared_of
+  underway_begin = begins (λ _ _. false)
 
   pub underway_turn : {i : ℕ} {ts os us : List Float} {now now' : States} {o p : Passed (LowPass A)} {y : Float} → Underway i ts os us now o → i < length temp
-      → p ≡ ahead_of filter_of low_same o.filter temp (i + 1) → Stays filter_of low_same p (get_or temp (i + 1) nan)
+      → p ≡ ahead_of filter_of o.filter temp (i + 1)
       → ◌≡◌ {A = States × Float} (now', y) (frame_of m now o.out (get_or os i nan))
       → Underway (i + 1) (set ts i o.out) (set os i y) (set us i (get_or us i nan ⊕ o.out)) now' p
-  underway_turn {i = i} {os = os} {us = us} {now = now} {o = o} v l e t h =
-      let z = v.sizes in
-      let n = v.filled_is in
-      let within : i < min (length temp) (length temp2) = omega (arith, z, l) in
-      let x : o.out ≡ get_or filled i nan = lead_puts nan v.lead within in
-      record {
-        lead = lead_turn nan v.lead within (ahead_step filter_of low_same o.filter temp (i + 1) e) (ahead_end filter_of low_same o.filter temp (i + 1) e);
-        mixed = scan_turn nan nan v.mixed (omega (arith, z, n, l)) (ap (λ (x : Float). (tt, get_or us i nan ⊕ x)) x);
-        sung = scan_turn nan nan v.sung (omega (arith, z, n, l)) (h ∙ ap (λ (x : Float). frame_of m now x (get_or os i nan)) x);
-        stays = t;
-        sizes = z;
-        filled_is = n;
-      }
+  unfolding ahead_of ahead_compared_of
+  underway_turn = turns (λ _ _. false)
+
+  pub underway_begin_compared : {o : Passed (LowPass A)} → Alike temp temp2 out aux → o ≡ ahead_compared_of filter_of low_same f temp 0
+      → Stays filter_of low_same o (get_or temp 0 nan) → UnderwayCompared 0 temp2 out aux states o
+  underway_begin_compared a e t = (begins low_same a e, t)
+
+  pub underway_turn_compared : {i : ℕ} {ts os us : List Float} {now now' : States} {o p : Passed (LowPass A)} {y : Float}
+      → UnderwayCompared i ts os us now o → i < length temp
+      → p ≡ ahead_compared_of filter_of low_same o.filter temp (i + 1) → Stays filter_of low_same p (get_or temp (i + 1) nan)
+      → ◌≡◌ {A = States × Float} (now', y) (frame_of m now o.out (get_or os i nan))
+      → UnderwayCompared (i + 1) (set ts i o.out) (set os i y) (set us i (get_or us i nan ⊕ o.out)) now' p
+  underway_turn_compared v l e t h = (turns low_same v.0 l e h, t)
 
   module _ {i : ℕ} {ts os us : List Float} {now : States} {o : Passed (LowPass A)} (v : Underway i ts os us now o) (l : length temp ≤ i) where
     filled_whole : ◌≡◌ {A = LowPass A × List Float} (o.filter, ts) (scan (fill filter_of) f temp temp2)

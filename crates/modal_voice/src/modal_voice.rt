@@ -1,5 +1,5 @@
 // Simple modal synthesis voice with a mallet exciter: click -> LPF -> resonator. With sustain the click is replaced by dust.
-ghost use Rattle.std.specs.Prelude.{◌≡◌};
+ghost use Rattle.std.specs.Prelude.{◌≡◌, true};
 ghost use Rattle.ground.specs.Draw.{ret, run, Ran};
 ghost use Rattle.noise.specs.Buffers.{IsAlike, IsSame};
 ghost use Rattle.modes.specs.Resonator.{svf_process_low};
@@ -9,7 +9,7 @@ ghost use Rattle.modal_voice.specs.ModalVoice.{excitation_words, excitation_coun
 
 use modes::resonator::{Batch, Mode, Modes, Resonator, ResonatorSvf, States};
 use modes::subnormal::is_small;
-use noise::ahead::{Filter, Passed};
+use noise::ahead::{Filter, Passed, Same};
 use noise::buffers::Buffers;
 use noise::excitation::{Counts, Knobs, Rendered};
 use noise::settling::{settle, silent_from};
@@ -126,8 +126,6 @@ impl<const AROUND: bool> LowPass<AROUND> {
 impl<const AROUND: bool> Filter for LowPass<AROUND> {
     ghost step = { filter_of };
 
-    ghost same = { low_same };
-
     // As a call it takes the frames of all modes a seventh longer.
     #[inline(always)]
     fn step(self, x: f32) -> (LowPass<AROUND>, f32) {
@@ -138,7 +136,17 @@ impl<const AROUND: bool> Filter for LowPass<AROUND> {
         }
     }
 
-    fn is(self, other: LowPass<AROUND>) -> bool {
+    fn is(self, other: LowPass<AROUND>) -> bool
+        ensures { (result ≡ low_same self.entry other.entry) × (result ≡ true → self.entry ≡ other.entry) }
+    {
+        self.is_same(other)
+    }
+}
+
+impl<const AROUND: bool> Same for LowPass<AROUND> {
+    ghost same = { low_same };
+
+    fn is_same(self, other: LowPass<AROUND>) -> bool {
         ground::bits::same(self.svf.state_1, other.svf.state_1)
             && ground::bits::same(self.svf.state_2, other.svf.state_2)
             && ground::bits::same(self.mode.g, other.mode.g)
@@ -194,7 +202,7 @@ fn frames_in_one<const AROUND: bool>(
     let out = &mut *b.out;
     let aux = &mut *b.aux;
     let mut states = States::from(mode_filters);
-    let mut ahead = Passed::first(filter, temp);
+    let mut ahead = Passed::first_compared(filter, temp);
     let mut small = false;
     // by index: the filter reads a frame ahead, and four buffers are written
     for i in 0..temp.len() {
@@ -202,7 +210,7 @@ fn frames_in_one<const AROUND: bool>(
             small = states.any_small();
         }
         let x = ahead.out;
-        ahead = ahead.on(temp, i);
+        ahead = ahead.on_compared(temp, i);
         temp_2[i] = x;
         aux[i] += x;
         out[i] = m.frame_at(small, &mut states, x, out[i]);

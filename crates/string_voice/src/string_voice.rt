@@ -122,13 +122,13 @@ fn sound_frames(
     let out = &mut *b.out;
     let aux = &mut *b.aux;
     let mut u = block.begin(s, word);
-    let mut ahead = Passed::first(f, temp);
+    let mut ahead = Passed::first_compared(f, temp);
     for i in 0..temp.len() {
         let x = ahead.out;
         temp_2[i] = x;
         aux[i] += x;
         u = block.advance(lines, u, x);
-        ahead = ahead.on(temp, i);
+        ahead = ahead.on_compared(temp, i);
         out[i] = waveguide::string::mix(out[i], u.string);
     }
     let Underway {

@@ -20,7 +20,7 @@ returns-then-is g c =
       | else-i-m w ↦ (w.anchor-is ∙ v.anchor_is ∙ ap (before p a.f a.xs.now) (sym w.at-is), omega (arith, w.at-is, v.earlier))
     ] in
     coming_round p a.f a.xs.now a.ys.now a.m (coming_turn p a.f a.xs.now a.ys.now v (omega arith) c.step-after.ensures k.0 k.1) (omega arith) k.1 (omega arith)
-    (c.is.ensures.1 c.if-is.true)
+    (c.is.ensures c.if-is.true)
 
 pub loop-i-preserved : goal.loop-i-preserved
 loop-i-preserved g c =

@@ -13,7 +13,7 @@ use Rattle.ground.proofs.Frames.{frames_begin, frames_turn, frames_good, length_
 use Rattle.ground.proofs.Lead.{lead_begin, lead_turn, lead_puts, lead_end}
 use Rattle.utils.specs.Filter.{svf_step, svf_process_buffer}
 use Rattle.noise.specs.SvfAhead.{svf_same}
-use Rattle.noise.proofs.OneAhead.{ahead_step, ahead_end}
+use Rattle.noise.proofs.OneAhead.{ahead_compared_step, ahead_compared_end}
 use Rattle.waveguide.specs.declared.string.String.{String}
 use Rattle.waveguide.specs.String.{advance, frame}
 use Rattle.waveguide.specs.Kept.{Good}
@@ -26,8 +26,8 @@ loop-i-init c =
     let a = c.args in
     let q = c.requires.2 in
     let e = c.begin-u.ensures in
-    let h = c.first-ahead.ensures in (
-      lead_begin (ahead_step filter_of svf_same a.f a.b.now.temp.now 0 h.0) (ahead_end filter_of svf_same a.f a.b.now.temp.now 0 h.0),
+    let h = c.first_compared-ahead.ensures in (
+      lead_begin (ahead_compared_step filter_of svf_same a.f a.b.now.temp.now 0 h.0) (ahead_compared_end filter_of svf_same a.f a.b.now.temp.now 0 h.0),
       frames_begin,
       frames_begin,
       begun_ahead a.block.params a.s a.word _ e,
@@ -71,11 +71,11 @@ loop-i-preserved c =
     let lt : l.i < length a.b.now.temp.now = omega (arith, z.all, c.loop-i-test) in
     let within : l.i < min (length a.b.now.temp.now) (length a.b.now.temp_2.now) = omega (arith, z, lt) in
     let x = lead_puts nan v.0 within in
-    let q = c.on-ahead.ensures in
+    let q = c.on_compared-ahead.ensures in
     let m = c.advance-u.ensures in
     let good = begun_good a.block.params a.s a.word _ b.ensures a.lines.now c.requires.0 in (
-      lead_turn nan v.0 within (ahead_step filter_of svf_same l.ahead.filter a.b.now.temp.now (l.i + 1) q.0)
-          (ahead_end filter_of svf_same l.ahead.filter a.b.now.temp.now (l.i + 1) q.0),
+      lead_turn nan v.0 within (ahead_compared_step filter_of svf_same l.ahead.filter a.b.now.temp.now (l.i + 1) q.0)
+          (ahead_compared_end filter_of svf_same l.ahead.filter a.b.now.temp.now (l.i + 1) q.0),
       scan_turn nan nan v.1 (omega (arith, z, lt)) (ap (λ (x : Float). (tt, get_or l.aux l.i nan ⊕ x)) x),
       frames_turn nan nan v.2 (omega (arith, z, lt)) (rw (← x, c.mix.ensures)
           (run_then (advance a.block.shape a.block.params _ (l.u.string, l.lines)) _ l.u.word m.0)),
