@@ -2,3 +2,5 @@
 #![tactic(auto)]
 
 pub mod modal_voice;
+#[cfg(test)]
+mod tests;
