@@ -1,4 +1,4 @@
-// What a filter gives that another crate could bring: it says what a step of it is, and no more of how two of it are compared than `Filter` asks.
+// A filter as another crate could write it, a `Filter` and no `Same`: what it gives a frame ahead and when it settles; and which two of the filter here are the same.
 ghost use Rattle.ground.specs.F32.{◌⊕◌};
 
 use crate::ahead::{Filter, Passed, Same};
@@ -29,8 +29,10 @@ fn sum_goes_ahead(rt: HostRuntime) {
     let xs = [1.0, 2.0, 4.0];
     let first = Passed::first(Sum { total: 0.5 }, &xs);
     assert!(rt; first.out == 1.5);
+    assert!(rt; !first.stands);
     let second = first.on(&xs, 0);
     assert!(rt; second.out == 3.5);
+    assert!(rt; !second.stands);
     let third = second.on(&xs, 1);
     assert!(rt; third.out == 7.5);
     let past = third.on(&xs, 2);
